@@ -1,0 +1,5 @@
+pub mod Buffers
+pub mod Bytes
+pub mod Faults
+pub mod Records
+pub mod Refusals
