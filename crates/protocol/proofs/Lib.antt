@@ -3,3 +3,4 @@ pub mod Contents
 pub mod Fields
 pub mod Numbers
 pub mod Records
+pub mod Tapes

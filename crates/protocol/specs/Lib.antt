@@ -3,3 +3,4 @@ pub mod Bytes
 pub mod Faults
 pub mod Records
 pub mod Refusals
+pub mod Tapes

@@ -4,6 +4,7 @@ mod field;
 mod record;
 mod refusal;
 mod request;
+mod tape;
 
 pub use fault::FaultValues;
 pub use fault::FieldFault;
@@ -12,6 +13,10 @@ pub use fault::RecordFault;
 pub use fault::RecordFromField;
 pub use fault::TapeFault;
 pub use fault::TapeFromRecord;
+pub use record::read_record;
+pub use record::write_record;
 pub use refusal::Refusal;
 pub use request::Request;
 pub use request::TransactionId;
+pub use tape::Tape;
+pub use tape::read_tape;
