@@ -4,3 +4,4 @@ pub mod Faults
 pub mod Records
 pub mod Refusals
 pub mod Tapes
+pub mod Words

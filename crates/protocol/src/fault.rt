@@ -58,8 +58,22 @@ impl TapeFault {
         ensures { λ r. ⌜ r ≡ fault-values self ⌝ }
     {
         match self {
-            TapeFault::TooLong => FaultValues { fault: 13, number: 0, start: 0 },
-            TapeFault::Record(Placed { fault, number, start }) => FaultValues { fault: fault.number(), number, start },
+            TapeFault::TooLong => FaultValues {
+                fault: 13,
+                number: 0,
+                start: 0,
+            },
+            TapeFault::Record(
+                Placed {
+                    fault,
+                    number,
+                    start,
+                },
+            ) => FaultValues {
+                fault: fault.number(),
+                number,
+                start,
+            },
         }
     }
 }

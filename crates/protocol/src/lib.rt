@@ -5,6 +5,7 @@ mod record;
 mod refusal;
 mod request;
 mod tape;
+mod words;
 
 pub use fault::FaultValues;
 pub use fault::FieldFault;
@@ -20,3 +21,4 @@ pub use request::Request;
 pub use request::TransactionId;
 pub use tape::Tape;
 pub use tape::read_tape;
+pub use words::RequestDisplay;

@@ -2,6 +2,7 @@
 ghost use mathlib.Core.Path.{_≡_};
 ghost use mathlib.Core.List.{List, _++_};
 ghost use Prim.Native.Nat.{ℕ};
+ghost use lib.ListN.{length};
 ghost use Rattle.std.specs.Results.{Cases};
 ghost use Rattle.std.specs.Vec.{made};
 ghost use Rattle.protocol.specs.Buffers.{put-answer, put-front};
@@ -44,7 +45,11 @@ fn two_and_long(content: &[u8]) -> Result<(u16, u16, u32), RecordFault>
     let [a, b, c, d, e, f, g, h] = content else {
         return Err(RecordFault::WrongLength);
     };
-    Ok((u16::from_be_bytes([*a, *b]), u16::from_be_bytes([*c, *d]), u32::from_be_bytes([*e, *f, *g, *h])))
+    Ok((
+        u16::from_be_bytes([*a, *b]),
+        u16::from_be_bytes([*c, *d]),
+        u32::from_be_bytes([*e, *f, *g, *h]),
+    ))
 }
 
 // The request that a content says under a tag.
@@ -59,7 +64,10 @@ fn request_of(tag: u8, content: &[u8]) -> Result<Request, RecordFault>
         }
         2 => {
             let (transaction, policy) = two_numbers(content)?;
-            Ok(Request::Deploy { transaction, policy })
+            Ok(Request::Deploy {
+                transaction,
+                policy,
+            })
         }
         3 => {
             let (transaction, cell) = two_numbers(content)?;
@@ -67,15 +75,26 @@ fn request_of(tag: u8, content: &[u8]) -> Result<Request, RecordFault>
         }
         4 => {
             let (transaction, cell, value) = two_and_long(content)?;
-            Ok(Request::Write { transaction, cell, value })
+            Ok(Request::Write {
+                transaction,
+                cell,
+                value,
+            })
         }
         5 => {
             let (transaction, policy) = two_numbers(content)?;
-            Ok(Request::Show { transaction, policy })
+            Ok(Request::Show {
+                transaction,
+                policy,
+            })
         }
         6 => {
             let (transaction, policy, right) = two_and_long(content)?;
-            Ok(Request::Set { transaction, policy, right })
+            Ok(Request::Set {
+                transaction,
+                policy,
+                right,
+            })
         }
         7 => {
             let transaction = one_number(content)?;
@@ -115,6 +134,19 @@ fn long_contents(a: u16, b: u16, long: u32) -> [u8; 8]
     [a_high, a_low, b_high, b_low, first, second, third, fourth]
 }
 
+impl Request {
+    // How many bytes its record has.
+    pub fn record_len(self) -> usize
+        ensures { λ r. ⌜ r ≡ length (record-bytes self) ⌝ }
+    {
+        match self {
+            Request::Open { .. } | Request::Commit { .. } | Request::GiveUp { .. } => 5,
+            Request::Deploy { .. } | Request::Read { .. } | Request::Show { .. } => 7,
+            Request::Write { .. } | Request::Set { .. } => 11,
+        }
+    }
+}
+
 // Writes the record of a request to the front of the buffer, and answers its length.
 pub fn write_record(request: Request, buffer: &mut [u8]) -> Result<usize, Refusal>
     ensures answer { λ r. ⌜ outcome r ≡ put-answer (record-bytes request) (now (buffer .entry)) ⌝ }
@@ -123,11 +155,29 @@ pub fn write_record(request: Request, buffer: &mut [u8]) -> Result<usize, Refusa
 {
     match request {
         Request::Open { subject } => put_field(buffer, 1, &subject.to_be_bytes()),
-        Request::Deploy { transaction, policy } => put_field(buffer, 2, &two_contents(transaction, policy)),
-        Request::Read { transaction, cell } => put_field(buffer, 3, &two_contents(transaction, cell)),
-        Request::Write { transaction, cell, value } => put_field(buffer, 4, &long_contents(transaction, cell, value)),
-        Request::Show { transaction, policy } => put_field(buffer, 5, &two_contents(transaction, policy)),
-        Request::Set { transaction, policy, right } => put_field(buffer, 6, &long_contents(transaction, policy, right)),
+        Request::Deploy {
+            transaction,
+            policy,
+        } => put_field(buffer, 2, &two_contents(transaction, policy)),
+        Request::Read { transaction, cell } => put_field(
+            buffer,
+            3,
+            &two_contents(transaction, cell),
+        ),
+        Request::Write {
+            transaction,
+            cell,
+            value,
+        } => put_field(buffer, 4, &long_contents(transaction, cell, value)),
+        Request::Show {
+            transaction,
+            policy,
+        } => put_field(buffer, 5, &two_contents(transaction, policy)),
+        Request::Set {
+            transaction,
+            policy,
+            right,
+        } => put_field(buffer, 6, &long_contents(transaction, policy, right)),
         Request::Commit { transaction } => put_field(buffer, 7, &transaction.to_be_bytes()),
         Request::GiveUp { transaction } => put_field(buffer, 8, &transaction.to_be_bytes()),
     }

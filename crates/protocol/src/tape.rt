@@ -26,12 +26,20 @@ pub struct Tape {
 }
 
 // Adds to a record's fault where the record stands on its tape.
-fn placed<'a>(read: Result<(Request, &'a [u8]), RecordFault>, number: u32, start: u32) -> Result<(Request, &'a [u8]), Placed>
+fn placed<'a>(
+    read: Result<(Request, &'a [u8]), RecordFault>,
+    number: u32,
+    start: u32,
+) -> Result<(Request, &'a [u8]), Placed>
     ensures { λ r. ⌜ r ≡ at-place (read .entry) number start ⌝ }
 {
     match read {
         Ok(next) => Ok(next),
-        Err(fault) => Err(Placed { fault, number, start }),
+        Err(fault) => Err(Placed {
+            fault,
+            number,
+            start,
+        }),
     }
 }
 
@@ -51,7 +59,10 @@ pub fn read_tape(heap: Global, bytes: &[u8]) -> Result<Tape, AllocError>
 {
     let mut requests = Vec::new(heap);
     if bytes.len() > 60_000 {
-        return Ok(Tape { requests, fault: Some(TapeFault::TooLong) });
+        return Ok(Tape {
+            requests,
+            fault: Some(TapeFault::TooLong),
+        });
     }
     let mut left = bytes;
     while !left.is_empty() {
@@ -62,8 +73,14 @@ pub fn read_tape(heap: Global, bytes: &[u8]) -> Result<Tape, AllocError>
                 requests.push(request)?;
                 left = rest;
             }
-            Err(fault) => return Ok(Tape { requests, fault: Some(fault) }),
+            Err(fault) => return Ok(Tape {
+                requests,
+                fault: Some(fault),
+            }),
         }
     }
-    Ok(Tape { requests, fault: None })
+    Ok(Tape {
+        requests,
+        fault: None,
+    })
 }

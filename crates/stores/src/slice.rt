@@ -29,14 +29,14 @@ pub impl Store for SliceStore<'_> as SliceStoring {
     }
 
     fn read(&self, at: usize) -> Result<u32, Refusal> {
-        if at >= self.numbers.len() {
+        if at >= self.size() {
             return Err(Refusal::Absent);
         }
         Ok(self.numbers[at])
     }
 
     fn write(&mut self, at: usize, value: u32) -> Result<(), Refusal> {
-        if at >= self.numbers.len() {
+        if at >= self.size() {
             return Err(Refusal::Absent);
         }
         self.numbers[at] = value;

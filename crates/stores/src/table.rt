@@ -20,10 +20,11 @@ impl TableStore {
     pub fn check(numbers: &[u32]) -> Result<(), Refusal>
         ensures { λ r. ⌜ outcome r ≡ table-check (now (numbers .entry)) ⌝ }
     {
-        if numbers.len() > 64 {
-            return Err(Refusal::TooMany);
+        if numbers.len() <= 64 {
+            Ok(())
+        } else {
+            Err(Refusal::TooMany)
         }
-        Ok(())
     }
 
     // A copy of the list; one that `check` refuses makes an empty table.
@@ -32,12 +33,18 @@ impl TableStore {
     {
         let mut own = [0; 64];
         if numbers.len() > 64 {
-            return TableStore { numbers: own, len: 0 };
+            return TableStore {
+                numbers: own,
+                len: 0,
+            };
         }
         for i in 0..numbers.len() {
             own[i] = numbers[i];
         }
-        TableStore { numbers: own, len: numbers.len() }
+        TableStore {
+            numbers: own,
+            len: numbers.len(),
+        }
     }
 }
 
@@ -51,14 +58,14 @@ pub impl Store for TableStore as TableStoring {
     }
 
     fn read(&self, at: usize) -> Result<u32, Refusal> {
-        if at >= self.len {
+        if at >= self.size() {
             return Err(Refusal::Absent);
         }
         Ok(self.numbers[at])
     }
 
     fn write(&mut self, at: usize, value: u32) -> Result<(), Refusal> {
-        if at >= self.len {
+        if at >= self.size() {
             return Err(Refusal::Absent);
         }
         self.numbers[at] = value;

@@ -20,6 +20,6 @@ returns c =
     record {
       answer = put-length (field-bytes tag content) buffer _ (omega arith) (omega arith);
       after =
-        ap₂ (λ bs part. putMid 3 (3 + length content - 3) (set (set (set buffer 0 tag) 1 (getD bs 0 0)) 2 (getD bs 1 0)) part) size (c .copy-from-slice .ensures .after)
-        ∙ put-three buffer content tag _ _ _ k room
+          ap₂ (λ bs part. putMid 3 (3 + length content - 3) (set (set (set buffer 0 tag) 1 (getD bs 0 0)) 2 (getD bs 1 0)) part) size (c .copy-from-slice .ensures .after)
+          ∙ put-three buffer content tag _ _ _ k room;
     }

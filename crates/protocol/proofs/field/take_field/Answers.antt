@@ -15,5 +15,5 @@ returns c =
     let low : getD bs 2 0 < 256 = search needs in
     record {
       parses = field-read bs _ _ three (h .0) (h .1) (h .2);
-      one-field = field-whole bs _ _ three high low (h .0) (h .1) (h .2)
+      one-field = field-whole bs _ _ three high low (h .0) (h .1) (h .2);
     }

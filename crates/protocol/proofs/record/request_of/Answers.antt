@@ -19,7 +19,7 @@ returns-in-Continue-transaction c =
     let e = c .in-Continue-transaction .ensures tt in
     record {
       says = heard (λ n. Deploy (n .0) (n .1)) (c .args .tag) 2 4 xs _ (two-at xs 0, two-at xs 2) (c .in-2 .is) refl (e .says);
-      whole = ap₂ field-bytes (c .in-2 .is) (e .whole)
+      whole = ap₂ field-bytes (c .in-2 .is) (e .whole);
     }
 
 pub returns-in-Continue-transaction-3 : need.returns-in-Continue-transaction-3
@@ -28,7 +28,7 @@ returns-in-Continue-transaction-3 c =
     let e = c .in-Continue-transaction-3 .ensures tt in
     record {
       says = heard (λ n. Write (n .0) (n .1) (n .2)) (c .args .tag) 4 8 xs _ (two-at xs 0, two-at xs 2, four-at xs 4) (c .in-4 .is) refl (e .says);
-      whole = ap₂ field-bytes (c .in-4 .is) (e .whole)
+      whole = ap₂ field-bytes (c .in-4 .is) (e .whole);
     }
 
 pub returns-in-Continue-transaction-5 : need.returns-in-Continue-transaction-5
@@ -37,5 +37,5 @@ returns-in-Continue-transaction-5 c =
     let e = c .in-Continue-transaction-5 .ensures tt in
     record {
       says = heard (λ n. Set (n .0) (n .1) (n .2)) (c .args .tag) 6 8 xs _ (two-at xs 0, two-at xs 2, four-at xs 4) (c .in-6 .is) refl (e .says);
-      whole = ap₂ field-bytes (c .in-6 .is) (e .whole)
+      whole = ap₂ field-bytes (c .in-6 .is) (e .whole);
     }

@@ -16,5 +16,5 @@ returns c =
     let v = c .from-be-bytes-3 .ensures in
     record {
       says = says 8 xs _ _ long (cc);
-      whole = whole-eight xs fit long ∙ ap₂ (λ us vs. us ++ vs) (ap₂ (λ a b. two-bytes a ++ two-bytes b) (sym m) (sym n)) (ap four-bytes (sym v))
+      whole = whole-eight xs fit long ∙ ap₂ (λ us vs. us ++ vs) (ap₂ (λ a b. two-bytes a ++ two-bytes b) (sym m) (sym n)) (ap four-bytes (sym v));
     }

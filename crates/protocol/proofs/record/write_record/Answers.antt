@@ -18,7 +18,7 @@ returns-in-Deploy c =
     record {
       answer = field-answer q p 2 content buffer (c .in-Deploy .is) whole (wrote .answer);
       after = field-after q p 2 content buffer (c .in-Deploy .is) whole (wrote .after);
-      reads-back = field-reads q p 2 content buffer (c .in-Deploy .is) whole fits
+      reads-back = field-reads q p 2 content buffer (c .in-Deploy .is) whole fits;
     }
 
 pub returns-in-Write : need.returns-in-Write
@@ -33,7 +33,7 @@ returns-in-Write c =
     record {
       answer = field-answer q p 4 content buffer (c .in-Write .is) whole (wrote .answer);
       after = field-after q p 4 content buffer (c .in-Write .is) whole (wrote .after);
-      reads-back = field-reads q p 4 content buffer (c .in-Write .is) whole fits
+      reads-back = field-reads q p 4 content buffer (c .in-Write .is) whole fits;
     }
 
 pub returns-in-Set : need.returns-in-Set
@@ -48,5 +48,5 @@ returns-in-Set c =
     record {
       answer = field-answer q p 6 content buffer (c .in-Set .is) whole (wrote .answer);
       after = field-after q p 6 content buffer (c .in-Set .is) whole (wrote .after);
-      reads-back = field-reads q p 6 content buffer (c .in-Set .is) whole fits
+      reads-back = field-reads q p 6 content buffer (c .in-Set .is) whole fits;
     }

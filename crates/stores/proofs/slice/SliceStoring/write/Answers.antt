@@ -2,5 +2,5 @@ use borrow.Author.Needs.{needs}
 use Rattle.std.proofs.shelf.Lists.{set-past}
 use Rattle.stores.proofs.slice.SliceStoring.write.Needs as need
 
-pub returns-then-at-self : need.returns-then-at-self
-returns-then-at-self c = search (needs, set-past)
+pub returns-then-at-size : need.returns-then-at-size
+returns-then-at-size c = search (needs, set-past)

@@ -7,8 +7,8 @@ use Rattle.std.proofs.shelf.Lists.{length-take, length-take-le, set-past}
 use Rattle.stores.proofs.Answered.{write-past, write-in, take-set-in}
 use Rattle.stores.proofs.table.TableStoring.write.Needs as need
 
-pub returns-then-at-self : need.returns-then-at-self
-returns-then-at-self c =
+pub returns-then-at-size : need.returns-then-at-size
+returns-then-at-size c =
     let ns = c .args .self .now .numbers in
     let n = c .args .self .now .len in
     let at = c .args .at in

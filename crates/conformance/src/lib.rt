@@ -1,0 +1,3 @@
+// Tests of the crates below, with values worked out by hand.
+#[cfg(test)]
+mod rights_tests;

@@ -1,0 +1,5 @@
+pub mod Appends
+pub mod Checkpoints
+pub mod LogLaws
+pub mod Numbers
+pub mod Sizes

@@ -1,0 +1,18 @@
+// Orders of rights: which codes are rights, what two rights join to, and what a right permits.
+mod change;
+mod examples;
+mod ladder;
+mod order;
+mod vector;
+
+pub use change::Change;
+pub use change::ChangeDebug;
+pub use change::ChangePartialEq;
+pub use change::change_of;
+pub use examples::examples_stand;
+pub use ladder::LadderOrder;
+pub use ladder::LadderRights;
+pub use order::Operation;
+pub use order::RightsOrder;
+pub use vector::VectorOrder;
+pub use vector::VectorRights;
