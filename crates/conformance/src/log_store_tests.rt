@@ -1,25 +1,10 @@
 // A log store on lent bytes: which bytes are refused, what they mean, and what a write leaves of them.
+use crate::refusals::refusal;
+use crate::refusals::value;
 use log_store::LogStore;
 use log_store::LogStoring;
-use protocol::Refusal;
 use std::test::*;
 use stores::Store;
-
-// The number of the refusal, or 0 where there is none.
-fn refusal<T: Drop>(r: Result<T, Refusal>) -> u8 {
-    match r {
-        Ok(_) => 0,
-        Err(refusal) => refusal.number(),
-    }
-}
-
-// The number that was read, or 0 where the read was refused.
-fn value(r: Result<u32, Refusal>) -> u32 {
-    match r {
-        Ok(number) => number,
-        Err(_) => 0,
-    }
-}
 
 // 256 numbers and one place take 4 * 256 + 9 = 1033 bytes, and 257 would take 1037.
 #[test]

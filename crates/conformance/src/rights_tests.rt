@@ -1,7 +1,7 @@
 // The orders of rights at their limits, and the whole table of the vector order.
-use rights::Change;
-use rights::ChangeDebug;
-use rights::ChangePartialEq;
+use rights::ChangeKind;
+use rights::ChangeKindDebug;
+use rights::ChangeKindPartialEq;
 use rights::LadderOrder;
 use rights::LadderRights;
 use rights::Operation;
@@ -120,15 +120,15 @@ fn thresholds_from_1_to_100() -> Result<(), Fail> {
 
 #[test]
 fn vector_changes() -> Result<(), Fail> {
-    check_eq(change_of(&VectorOrder, 2, 3), Change::Relaxation)?;
-    check_eq(change_of(&VectorOrder, 3, 2), Change::Restriction)?;
-    check_eq(change_of(&VectorOrder, 3, 4), Change::Restriction)
+    check_eq(change_of(&VectorOrder, 2, 3), ChangeKind::Relaxation)?;
+    check_eq(change_of(&VectorOrder, 3, 2), ChangeKind::Restriction)?;
+    check_eq(change_of(&VectorOrder, 3, 4), ChangeKind::Restriction)
 }
 
 #[test]
 fn ladder_changes() -> Result<(), Fail> {
     let order = ladder()?;
-    check_eq(change_of(&order, 20, 30), Change::Relaxation)?;
-    check_eq(change_of(&order, 30, 30), Change::Relaxation)?;
-    check_eq(change_of(&order, 30, 20), Change::Restriction)
+    check_eq(change_of(&order, 20, 30), ChangeKind::Relaxation)?;
+    check_eq(change_of(&order, 30, 30), ChangeKind::Relaxation)?;
+    check_eq(change_of(&order, 30, 20), ChangeKind::Restriction)
 }

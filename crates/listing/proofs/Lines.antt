@@ -5,8 +5,8 @@ use Prim.Native.Nat.{ℕ, _+_, _<_, _≤_}
 use native.Mathlib.Omega.{arith}
 use lib.ListN.{length, getD, drop}
 use Rattle.std.proofs.shelf.Lists.{append-assoc, append-nil, length-append, at-drop-more, at-drop-all}
-use Rattle.protocol.specs.Records.{record-bytes}
-use Rattle.protocol.specs.Tapes.{tape-bytes}
+use Rattle.records.specs.Records.{record-bytes}
+use Rattle.records.specs.Tapes.{tape-bytes}
 use Rattle.protocol.specs.declared.request.Request.{Request}
 use Rattle.listing.specs.Listings.{request-line, request-lines}
 

@@ -6,10 +6,10 @@ use lib.ListN.{length}
 use Rattle.std.specs.Written.{decimal}
 use Rattle.std.specs.declared.option.Option.{Option}
 use Rattle.std.specs.declared.option.Option.the-variants.{Some, None}
-use Rattle.protocol.specs.Records.{record-bytes}
-use Rattle.protocol.specs.Tapes.{Requests, tape-of}
+use Rattle.records.specs.Records.{record-bytes}
+use Rattle.records.specs.Tapes.{Requests, tape-of}
 use Rattle.protocol.specs.Words.{words}
-use Rattle.protocol.specs.declared.fault.FaultValues.{FaultValues}
+use Rattle.records.specs.declared.fault.FaultValues.{FaultValues}
 use Rattle.protocol.specs.declared.request.Request.{Request}
 
 -- A record's line: its number, its first byte, and the request in words.

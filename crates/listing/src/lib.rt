@@ -5,14 +5,15 @@ ghost use lib.ListN.{length};
 ghost use Rattle.std.specs.Of.String.{string-bytes};
 ghost use Rattle.std.specs.Options.{mapped};
 ghost use Rattle.std.specs.Vec.{made};
-ghost use Rattle.protocol.specs.Faults.{fault-values};
-ghost use Rattle.protocol.specs.Tapes.{tape-bytes};
+ghost use Rattle.records.specs.Faults.{fault-values};
+ghost use Rattle.records.specs.Tapes.{tape-bytes};
 ghost use Rattle.listing.specs.Listings.{request-line, request-lines, values-line, fault-line, ending, read-size, summary, last-line, listing-of};
-use protocol::FaultValues;
 use protocol::Request;
 use protocol::RequestDisplay;
-use protocol::TapeFault;
-use protocol::read_tape;
+use records::FaultValues;
+use records::TapeFault;
+use records::read_tape;
+use records::record_len;
 use std::alloc::AllocError;
 use std::alloc::Global;
 
@@ -39,7 +40,7 @@ fn request_lines(heap: Global, requests: &[Request]) -> Result<String, AllocErro
         let line = request_line(heap, number, start, *request)?;
         lines.push_str(line.as_str())?;
         number += 1;
-        start += request.record_len();
+        start += record_len(*request);
     }
     Ok(lines)
 }

@@ -12,7 +12,7 @@ use Rattle.std.proofs.shelf.Tests.{cases-eq, cond-both, cond-true, le-leb}
 use Rattle.protocol.specs.Bytes.{two-at, four-at}
 use Rattle.log_store.specs.Log.{appended, ended, listed, log-end, log-field, log-list, places, spliced, used}
 use Rattle.log_store.proofs.LogLaws.{listed-same, used-from-is, used-from-tags}
-use Rattle.log_store.proofs.Numbers.{four-back, two-back}
+use Rattle.protocol.proofs.Numbers.{four-back, two-back}
 
 module _ (t : List ℕ) (p : ℕ) (bs : List ℕ) (fits : p + length bs ≤ length t) where
   length-spliced : length (spliced t p bs) ≡ length t
@@ -35,24 +35,24 @@ module _ (t : List ℕ) (p : ℕ) where
   ended-tag h = ap (λ u. getD u p 0) (cond-true _ _ _ (le-leb (p + 9) (length t) h)) ∙ getD-set-same t p 0 0 (omega arith)
 
 module _ (t : List ℕ) (p at v : ℕ) (fits : p + 9 ≤ length t) where
-  length-appended : length (appended t p at v) ≡ length t
+  pub length-appended : length (appended t p at v) ≡ length t
   length-appended = length-ended (spliced t p (log-field at v)) (p + 9) ∙ length-spliced t p (log-field at v) fits
 
-  appended-below : (j : ℕ) → j < p → getD (appended t p at v) j 0 ≡ getD t j 0
+  pub appended-below : (j : ℕ) → j < p → getD (appended t p at v) j 0 ≡ getD t j 0
   appended-below j h = ended-below (spliced t p (log-field at v)) (p + 9) j (omega arith) ∙ spliced-below t p (log-field at v) fits j h
 
-  appended-in : (i : ℕ) → i < 9 → getD (appended t p at v) (p + i) 0 ≡ getD (log-field at v) i 0
+  pub appended-in : (i : ℕ) → i < 9 → getD (appended t p at v) (p + i) 0 ≡ getD (log-field at v) i 0
   appended-in i h = ended-below (spliced t p (log-field at v)) (p + 9) (p + i) (omega arith) ∙ spliced-in t p (log-field at v) fits i h
 
-  appended-tag : getD (appended t p at v) p 0 ≡ 67
+  pub appended-tag : getD (appended t p at v) p 0 ≡ 67
   appended-tag = let here : p ≡ p + 0 = omega arith in ap (λ j. getD (appended t p at v) j 0) here ∙ appended-in 0 (omega arith)
 
-  appended-next : p + 18 ≤ length t → getD (appended t p at v) (p + 9) 0 ≡ 0
+  pub appended-next : p + 18 ≤ length t → getD (appended t p at v) (p + 9) 0 ≡ 0
   appended-next h =
       let size = length-spliced t p (log-field at v) fits in
       ended-tag (spliced t p (log-field at v)) (p + 9) (omega arith)
 
-  appended-position : at < 65536 → two-at (appended t p at v) (p + 3) ≡ at
+  pub appended-position : at < 65536 → two-at (appended t p at v) (p + 3) ≡ at
   appended-position h =
       let a = appended-in 3 (omega arith) in
       let b = appended-in 4 (omega arith) in
@@ -74,7 +74,7 @@ module _ (t : List ℕ) (p at v : ℕ) (fits : p + 9 ≤ length t) where
 
 -- one more field at the log's end, by the bytes that it changes
 module _ (n : ℕ) (t u : List ℕ) (size : length u ≡ length t) (below : (j : ℕ) → j < log-end n t → getD u j 0 ≡ getD t j 0) (tag : getD u (log-end n t) 0 ≡ 67) (next : log-end n t + 18 ≤ length t → getD u (log-end n t + 9) 0 ≡ 0) (free : log-end n t + 9 ≤ length t) where
-  used-grown : used n u ≡ used n t + 1
+  pub used-grown : used n u ≡ used n t + 1
   used-grown =
       let k = used n t in
       let on : 4 * n + 9 * (k + 1) ≡ log-end n t + 9 = omega arith in

@@ -3,3 +3,4 @@ pub mod Checkpoints
 pub mod LogLaws
 pub mod Numbers
 pub mod Sizes
+pub mod Sound

@@ -1,13 +1,14 @@
--- Numbers in bytes: they depend on their own bytes alone, and come back from the bytes that were made of them.
+-- Numbers in bytes: they depend on their own bytes alone; the bytes of a list of numbers.
 use mathlib.Core.Path.{_≡_, refl, sym, ap, _∙_}
 use mathlib.Core.List.{List, [], _∷_, _++_}
-use Prim.Native.Nat.{ℕ, zero, suc, _+_, _*_, _/_, _%_, _<_, _≤_}
-use native.Mathlib.Nat.{add-assoc, div-add-mod, div-div-eq-div-mul, mod-eq-of-lt}
+use Prim.Native.Nat.{ℕ, zero, suc, _+_, _*_, _<_, _≤_}
+use native.Mathlib.Nat.{add-assoc}
 use native.Mathlib.Omega.{arith}
 use lib.ListN.{length, getD, drop}
 use Rattle.std.specs.Joined.{joined}
 use Rattle.std.proofs.shelf.Lists.{getD-drop}
-use Rattle.protocol.specs.Bytes.{four-at, four-bytes, two-at, two-bytes}
+use Rattle.protocol.specs.Bytes.{four-at, four-bytes, two-at}
+use Rattle.protocol.proofs.Numbers.{four-back}
 
 pub four-same : (t u : List ℕ) (p : ℕ) → ((j : ℕ) → p ≤ j → j < p + 4 → getD u j 0 ≡ getD t j 0) → four-at u p ≡ four-at t p
 four-same t u p h =
@@ -22,17 +23,6 @@ two-same t u p h =
     let a = h p (omega arith) (omega arith) in
     let b = h (p + 1) (omega arith) (omega arith) in
     cc
-
-pub four-back : (x : ℕ) → x < 4294967296 → four-at (four-bytes x) 0 ≡ x
-four-back x h =
-    let a : 256 * (x / 256) + x % 256 ≡ x = div-add-mod x 256 in
-    let b : 256 * (x / 65536) + x / 256 % 256 ≡ x / 256 = rw (div-div-eq-div-mul x 256 256) at (div-add-mod (x / 256) 256) in
-    let c : 256 * (x / 16777216) + x / 65536 % 256 ≡ x / 65536 = rw (div-div-eq-div-mul x 65536 256) at (div-add-mod (x / 65536) 256) in
-    let d : x / 16777216 % 256 ≡ x / 16777216 = mod-eq-of-lt (omega arith) in
-    omega arith
-
-pub two-back : (x : ℕ) → x < 65536 → two-at (two-bytes x) 0 ≡ x
-two-back x h = omega arith
 
 four-drop : (bs : List ℕ) (p : ℕ) → four-at (drop 4 bs) p ≡ four-at bs (4 + p)
 four-drop bs p = simp (getD-drop, add-assoc)

@@ -20,13 +20,14 @@ size-room n t at h = grind (arith, tells)
 pub size-same : (n : ℕ) (t u : List ℕ) → length u ≡ length t → size-on n u ≡ size-on n t
 size-same n t u e = cc
 
+pub size-whole : (n : ℕ) (t : List ℕ) → holds-log n t ≡ true → size-on n t ≡ n
+size-whole n t e = cond-true _ _ _ (and-parts (fits n t) _ e .0)
+
 -- the list of a new store
 pub list-made : (n : ℕ) (t : List ℕ) → log-list (size-on (cond (holds-log n t) n 0) t) t ≡ log-of n t
 list-made n t =
     ⊎-elim
-    (λ (e : holds-log n t ≡ true).
-    let size : size-on n t ≡ n = cond-true _ _ _ (and-parts (fits n t) _ e .0) in
-    ap (λ m. log-list (size-on m t) t) (cond-true _ _ _ e) ∙ ap (λ m. log-list m t) size ∙ sym (cond-true _ _ _ e))
+    (λ (e : holds-log n t ≡ true). ap (λ m. log-list (size-on m t) t) (cond-true _ _ _ e) ∙ ap (λ m. log-list m t) (size-whole n t e) ∙ sym (cond-true _ _ _ e))
     (λ (e : holds-log n t ≡ false).
     let size : size-on 0 t ≡ 0 = grind (arith, tells) in
     ap (λ m. log-list (size-on m t) t) (cond-false _ _ _ e) ∙ nil-from-length (log-list (size-on 0 t) t) (length-log (size-on 0 t) t ∙ size) ∙ sym (cond-false _ _ _ e))

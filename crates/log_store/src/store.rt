@@ -1,6 +1,6 @@
 // The log as a store.
 ghost use mathlib.Core.Path.{_≡_};
-ghost use mathlib.Core.Bool.{cond};
+ghost use mathlib.Core.Bool.{true, cond};
 ghost use lib.ListN.{set};
 ghost use denote.Ref.{name};
 ghost use Rattle.protocol.specs.Refusals.{outcome};
@@ -65,12 +65,13 @@ pub impl Store for LogStore<'_> as LogStoring {
         Ok(number_at(self.bytes, count, used_places(self.bytes, count), at))
     }
 
-    // It promises more than any store does: the exact bytes.
+    // It promises more than any store does: the exact bytes, and that where they held a log of its count, they still do.
     fn write(&mut self, at: usize, value: u32) -> Result<(), Refusal>
         ensures answer { λ r. ⌜ outcome r ≡ write-at (list-of (now (self .entry))) at ⌝ }
         ensures after { λ _. ⌜ list-of (now (self .exit)) ≡ set (list-of (now (self .entry))) at value ⌝ }
         ensures kept { λ _. ⌜ lent-of (now (self .exit)) ≡ lent-of (now (self .entry)) ⌝ }
         ensures bytes { λ _. ⌜ bytes-of (now (self .exit)) ≡ bytes-after (now (self .entry)) at value ⌝ }
+        ensures sound { λ _. ⌜ (holds-log (now (self .entry) .count) (bytes-of (now (self .entry))) ≡ true → holds-log (now (self .exit) .count) (bytes-of (now (self .exit))) ≡ true) ⌝ }
     {
         let count = self.size();
         if at >= count {

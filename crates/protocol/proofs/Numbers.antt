@@ -1,7 +1,7 @@
 -- Numbers and their bytes: each gives the other back.
-use mathlib.Core.Path.{_≡_, refl, ap₂}
-use mathlib.Core.List.{List, [], _∷_}
-use Prim.Native.Nat.{ℕ, _+_, _*_, _/_, _%_, _<_, _^_}
+use mathlib.Core.Path.{_≡_}
+use mathlib.Core.List.{[], _∷_}
+use Prim.Native.Nat.{ℕ, _+_, _*_, _/_, _%_, _<_}
 use native.Mathlib.Omega.{arith}
 use Rattle.protocol.specs.Bytes.{two-bytes, four-bytes, two-at, four-at}
 
@@ -20,10 +20,10 @@ four-bytes-of a b c d h i j k =
     let fourth : n % 256 ≡ d = omega arith in
     cc
 
-pub two-back : (n : ℕ) → n < 65536 → n / 256 % 256 * 256 + n % 256 ≡ n
+pub two-back : (n : ℕ) → n < 65536 → two-at (two-bytes n) 0 ≡ n
 two-back n h = omega arith
 
-pub four-back : (n : ℕ) → n < 4294967296 → n / 16777216 % 256 * 16777216 + n / 65536 % 256 * 65536 + n / 256 % 256 * 256 + n % 256 ≡ n
+pub four-back : (n : ℕ) → n < 4294967296 → four-at (four-bytes n) 0 ≡ n
 four-back n h =
     let second : n / 65536 ≡ n / 256 / 256 = omega arith in
     let first : n / 16777216 ≡ n / 65536 / 256 = omega arith in

@@ -4,15 +4,15 @@ use mathlib.Core.Bool.{Bool, true, false}
 use Prim.Native.Nat.{ℕ}
 use Rattle.protocol.specs.Refusals.{answered}
 use Rattle.rights.specs.Orders.{join-of, permits-of, change-of, vector-right, vector-joined, ladder-right, ladder-allows, ladder-check}
-use Rattle.rights.specs.declared.change.Change.{Change}
-use Rattle.rights.specs.declared.change.Change.the-variants.{Relaxation, Restriction}
+use Rattle.rights.specs.declared.change.ChangeKind.{ChangeKind}
+use Rattle.rights.specs.declared.change.ChangeKind.the-variants.{Relaxation, Restriction}
 use Rattle.rights.specs.declared.order.Operation.{Operation}
 use Rattle.rights.specs.declared.order.Operation.the-variants.{Read, Write, Restrict}
 
 abbrev vector-join : ℕ → ℕ → ℕ
 vector-join = join-of vector-right vector-joined
 
-abbrev vector-change : ℕ → ℕ → Change
+abbrev vector-change : ℕ → ℕ → ChangeKind
 vector-change = change-of vector-join
 
 -- with the thresholds 10, 20 and 30

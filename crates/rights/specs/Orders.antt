@@ -4,8 +4,8 @@ use Prim.Native.Nat.{ℕ, max}
 use lib.Bits.{bitAnd, bitOr}
 use lib.Dec.{leb, eqb}
 use Rattle.protocol.specs.Refusals.{Outcome, answered, refused}
-use Rattle.rights.specs.declared.change.Change.{Change}
-use Rattle.rights.specs.declared.change.Change.the-variants.{Relaxation, Restriction}
+use Rattle.rights.specs.declared.change.ChangeKind.{ChangeKind}
+use Rattle.rights.specs.declared.change.ChangeKind.the-variants.{Relaxation, Restriction}
 use Rattle.rights.specs.declared.order.Operation.{Operation}
 use Rattle.rights.specs.declared.order.Operation.the-variants.{Read, Write, Restrict}
 
@@ -17,7 +17,7 @@ abbrev pub permits-of : (ℕ → Bool) → (ℕ → Operation → Bool) → ℕ 
 permits-of right allows code operation = right code && allows code operation
 
 -- A change relaxes exactly if the join of old and new is new.
-abbrev pub change-of : (ℕ → ℕ → ℕ) → ℕ → ℕ → Change
+abbrev pub change-of : (ℕ → ℕ → ℕ) → ℕ → ℕ → ChangeKind
 change-of join old new = cond (eqb (join old new) new) Relaxation Restriction
 
 -- The vector order: the rights are 0 to 7, and each operation has a weight.

@@ -2,8 +2,8 @@
 ghost use mathlib.Core.Path.{_≡_};
 ghost use mathlib.Core.Bool.{true};
 ghost use Rattle.rights.specs.Examples.{ExamplesStand};
-use crate::change::Change;
-use crate::change::ChangePartialEq;
+use crate::change::ChangeKind;
+use crate::change::ChangeKindPartialEq;
 use crate::change::change_of;
 use crate::ladder::LadderOrder;
 use crate::ladder::LadderRights;
@@ -17,12 +17,12 @@ fn vector_agrees() -> bool
 {
     let order = VectorOrder;
     order.join(1, 5) == 5
-        && change_of(&order, 1, 5) == Change::Relaxation
+        && change_of(&order, 1, 5) == ChangeKind::Relaxation
         && order.join(1, 6) == 7
-        && change_of(&order, 1, 6) == Change::Restriction
-        && change_of(&order, 6, 6) == Change::Relaxation
-        && change_of(&order, 0, 4) == Change::Relaxation
-        && change_of(&order, 4, 0) == Change::Restriction
+        && change_of(&order, 1, 6) == ChangeKind::Restriction
+        && change_of(&order, 6, 6) == ChangeKind::Relaxation
+        && change_of(&order, 0, 4) == ChangeKind::Relaxation
+        && change_of(&order, 4, 0) == ChangeKind::Restriction
 }
 
 fn ladder_agrees() -> bool

@@ -5,9 +5,9 @@ mod ladder;
 mod order;
 mod vector;
 
-pub use change::Change;
-pub use change::ChangeDebug;
-pub use change::ChangePartialEq;
+pub use change::ChangeKind;
+pub use change::ChangeKindDebug;
+pub use change::ChangeKindPartialEq;
 pub use change::change_of;
 pub use examples::examples_stand;
 pub use ladder::LadderOrder;

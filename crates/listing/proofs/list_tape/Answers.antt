@@ -1,8 +1,8 @@
 use mathlib.Core.Path.{_≡_, sym, ap, subst, _∙_}
 use Prim.Native.Nat.{_≤_}
 use lib.ListN.{length}
-use Rattle.protocol.specs.Tapes.{tape-bytes}
-use Rattle.protocol.proofs.Tapes.{tape-bound}
+use Rattle.records.specs.Tapes.{tape-bytes}
+use Rattle.records.proofs.Tapes.{tape-bound}
 use Rattle.listing.proofs.list_tape.Needs as need
 
 pub request-lines-requires : need.request-lines-requires

@@ -6,9 +6,10 @@ use Rattle.std.proofs.shelf.Lists.{set-past}
 use Rattle.std.proofs.shelf.Tests.{cond-false, cond-true, le-ltb, lt-ltb}
 use Rattle.stores.proofs.Answered.{write-in, write-past}
 use Rattle.log_store.specs.Held.{list-of, size-of}
-use Rattle.log_store.specs.Log.{log-list, written}
+use Rattle.log_store.specs.Log.{holds-log, log-list, written}
 use Rattle.log_store.proofs.LogLaws.{length-log}
-use Rattle.log_store.proofs.Sizes.{size-room, size-same}
+use Rattle.log_store.proofs.Sizes.{size-room, size-same, size-whole}
+use Rattle.log_store.proofs.Sound.{sound-written}
 use Rattle.log_store.proofs.store.LogStoring.write.Needs as need
 
 pub returns-then-at-count : need.returns-then-at-count
@@ -22,6 +23,7 @@ returns-then-at-count c =
       after = sym (set-past (list-of s) at (c .args .value) past);
       kept = refl;
       bytes = sym (cond-false _ _ _ (le-ltb at (size-of s) (omega arith)));
+      sound = λ h. h;
     }
 
 pub cast-at : need.cast-at
@@ -52,4 +54,7 @@ returns c =
       after = ap (λ n. log-list n u) (same ∙ sym size) ∙ c .write-number .ensures .list ∙ ap (λ n. set (log-list n t) at v) size;
       kept = refl;
       bytes = c .write-number .ensures .bytes ∙ ap (λ n. written n t at v) size ∙ sym (cond-true _ _ _ (lt-ltb at (size-of s) (omega arith)));
+      sound = λ h.
+          let whole = size ∙ size-whole (s .count) t h in
+          ap (holds-log (s .count)) (c .write-number .ensures .bytes ∙ ap (λ n. written n t at v) whole) ∙ sound-written (s .count) t at v (omega arith) h;
     }

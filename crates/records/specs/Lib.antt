@@ -1,0 +1,4 @@
+pub mod Buffers
+pub mod Faults
+pub mod Records
+pub mod Tapes
