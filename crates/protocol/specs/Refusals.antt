@@ -3,10 +3,17 @@ use Prim.Native.Nat.{ℕ}
 use Rattle.std.specs.declared.result.Result.{Result}
 use Rattle.std.specs.declared.result.Result.the-variants.{Ok, Err}
 use Rattle.protocol.specs.declared.refusal.Refusal.{Refusal}
-use Rattle.protocol.specs.declared.refusal.Refusal.the-variants.{Absent, ExceedsBuffer, TooMany, BadThreshold, BadLog}
+use Rattle.protocol.specs.declared.refusal.Refusal.the-variants.{TooManyOpened, NoFreeSlot, NoSuchTransaction, Absent, OtherSubject, NotPermitted, TooManyChanges, NotARight, ExceedsBuffer, TooMany, BadThreshold, BadLog}
 
 abbrev pub refusal-number : Refusal → ℕ
+refusal-number TooManyOpened = 1
+refusal-number NoFreeSlot = 2
+refusal-number NoSuchTransaction = 3
 refusal-number Absent = 4
+refusal-number OtherSubject = 5
+refusal-number NotPermitted = 6
+refusal-number TooManyChanges = 7
+refusal-number NotARight = 8
 refusal-number ExceedsBuffer = 12
 refusal-number TooMany = 14
 refusal-number BadThreshold = 17

@@ -1,8 +1,16 @@
-// The words that every layer shares: what is asked, and why it is refused.
+// The words that every layer shares: what is asked, what is answered, and why it is refused.
+mod answer;
+mod policy;
 mod refusal;
 mod request;
 mod words;
 
+pub use answer::Answer;
+pub use answer::AnswerDebug;
+pub use answer::AnswerPartialEq;
+pub use policy::Object;
+pub use policy::ObjectPartialEq;
+pub use policy::Policy;
 pub use refusal::Refusal;
 pub use refusal::RefusalDebug;
 pub use refusal::RefusalPartialEq;
