@@ -7,7 +7,7 @@ use Rattle.std.specs.Written.{decimal}
 use Rattle.std.specs.declared.option.Option.{Option}
 use Rattle.std.specs.declared.option.Option.the-variants.{Some, None}
 use Rattle.records.specs.Records.{record-bytes}
-use Rattle.records.specs.Tapes.{Requests, tape-of}
+use Rattle.records.specs.Tapes.{TapeReading, tape-of}
 use Rattle.protocol.specs.Words.{words}
 use Rattle.records.specs.declared.fault.FaultValues.{FaultValues}
 use Rattle.protocol.specs.declared.request.Request.{Request}
@@ -45,7 +45,7 @@ summary count read size end = decimal count ++ codes " records, " ++ decimal rea
 abbrev pub last-line : ℕ → Option FaultValues → ℕ → List ℕ
 last-line count fault size = summary count (read-size fault size) size (ending fault)
 
-abbrev pub listing : Requests → ℕ → List ℕ
+abbrev pub listing : TapeReading → ℕ → List ℕ
 listing tape size = request-lines 1 0 (tape .requests) ++ fault-line (tape .fault) ++ last-line (length (tape .requests)) (tape .fault) size
 
 abbrev pub listing-of : List ℕ → List ℕ

@@ -32,12 +32,7 @@ record-back (Commit t) f rest = back 7 (two-bytes t) rest (Commit t) (lit≤ tt)
 record-back (GiveUp t) f rest = back 8 (two-bytes t) rest (GiveUp t) (lit≤ tt) (ap (λ n. answered (GiveUp n)) (two-back t f))
 
 -- a field with the content of a request was written
-module _ (q p : Request) (tag : ℕ) (content buffer : List ℕ) (is : q ≡ p) (whole : field-bytes tag content ≡ record-bytes p) where
-  pub field-answer : {r : Outcome ℕ} → r ≡ put-answer (field-bytes tag content) buffer → r ≡ put-answer (record-bytes q) buffer
-  field-answer e = e ∙ ap (λ bs. put-answer bs buffer) (whole ∙ ap record-bytes (sym is))
-
-  pub field-after : {after : List ℕ} → after ≡ put-front (field-bytes tag content) buffer → after ≡ put-front (record-bytes q) buffer
-  field-after e = e ∙ ap (λ bs. put-front bs buffer) (whole ∙ ap record-bytes (sym is))
-
-  pub field-reads : Fits p → (rest : List ℕ) → record-of (record-bytes q ++ rest) ≡ answered (q, rest)
-  field-reads f = record-back q (subst Fits (sym is) f)
+pub field-wrote : (q p : Request) (tag : ℕ) (content buffer : List ℕ) → q ≡ p → field-bytes tag content ≡ record-bytes p → Fits p → {r : Outcome ℕ} {after : List ℕ} → r ≡ put-answer (field-bytes tag content) buffer → after ≡ put-front (field-bytes tag content) buffer → (r ≡ put-answer (record-bytes q) buffer) × (after ≡ put-front (record-bytes q) buffer) × ((rest : List ℕ) → record-of (record-bytes q ++ rest) ≡ answered (q, rest))
+field-wrote q p tag content buffer is whole fits answer after =
+    let same = whole ∙ ap record-bytes (sym is) in
+    (answer ∙ ap (λ bs. put-answer bs buffer) same, after ∙ ap (λ bs. put-front bs buffer) same, record-back q (subst Fits (sym is) fits))

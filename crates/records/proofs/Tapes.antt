@@ -16,7 +16,7 @@ use Rattle.protocol.specs.declared.request.Request.{Request}
 use Rattle.protocol.specs.declared.request.Request.the-variants.{Open, Deploy, Read, Write, Show, Set, Commit, GiveUp}
 use Rattle.records.specs.Records.{record-bytes, Fits, record-of}
 use Rattle.protocol.specs.Refusals.{Outcome, answered, refused}
-use Rattle.records.specs.Tapes.{Requests, stopped, behind, go-on, records-from, tape-of, tape-bytes, up-to, ReadsTape}
+use Rattle.records.specs.Tapes.{TapeReading, stopped, behind, go-on, records-from, tape-of, tape-bytes, up-to, ReadsTape}
 use Rattle.records.proofs.Records.{record-back}
 
 pub record-size : (q : Request) → 3 ≤ length (record-bytes q)
@@ -48,7 +48,7 @@ from-ends (suc most) total number [] h = refl
 from-ends (suc most) total number (b ∷ bs) h = absurd (omega arith)
 
 -- requests that were read before
-abbrev pub ahead : List Request → Requests → Requests
+abbrev pub ahead : List Request → TapeReading → TapeReading
 ahead requests tape = record { requests = requests ++ tape .requests; fault = tape .fault }
 
 -- Of the bytes, n requests were read, and some bytes are left.
@@ -108,7 +108,7 @@ tape-back requests bytes fits h e =
     ∙ ap (λ bs. records-from (length bytes) (length bytes) 1 bs) (sym e)
     ∙ records-back requests fits (length bytes) (length bytes) 1 (omega (arith, ap length e))
 
-pub tape-read : (bytes : List ℕ) (tape : Requests) → tape ≡ tape-of bytes → tape-bytes (tape .requests) ≡ up-to (tape .fault) bytes → ReadsTape bytes tape
+pub tape-read : (bytes : List ℕ) (tape : TapeReading) → tape ≡ tape-of bytes → tape-bytes (tape .requests) ≡ up-to (tape .fault) bytes → ReadsTape bytes tape
 tape-read bytes tape e f = record { reads = e; one-record-each = f; reads-back = λ requests fits h same. e ∙ tape-back requests bytes fits h same }
 
 length-up-to : (fault : Option FaultValues) (bytes : List ℕ) → length (up-to fault bytes) ≤ length bytes
@@ -122,7 +122,7 @@ pub tape-long : (bytes : List ℕ) → 60000 < length bytes → stopped 13 0 0 �
 tape-long bytes h = sym (cond-false _ _ _ (lt-leb (length bytes) 60000 h))
 
 -- the records that were read from a tape are no longer than a tape may be
-pub tape-bound : (bytes : List ℕ) (tape : Requests) → ReadsTape bytes tape → length (tape-bytes (tape .requests)) ≤ 60000
+pub tape-bound : (bytes : List ℕ) (tape : TapeReading) → ReadsTape bytes tape → length (tape-bytes (tape .requests)) ≤ 60000
 tape-bound bytes tape r =
     ⊎-elim
     (λ h. let none : length (tape-bytes (tape .requests)) ≡ 0 = ap (λ t. length (tape-bytes (t .requests))) (r .reads ∙ sym (tape-long bytes h)) in omega arith)
