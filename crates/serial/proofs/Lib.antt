@@ -1,0 +1,17 @@
+pub mod Laws
+pub mod Basics
+pub mod Slots
+pub mod Locks
+pub mod Changes
+pub mod Replay
+pub mod Fits
+pub mod Advance
+pub mod Granted
+pub mod Invariant
+pub mod Steps
+pub mod Kept
+pub mod Fate
+pub mod Counts
+pub mod Struck
+pub mod Parts
+pub mod Main
