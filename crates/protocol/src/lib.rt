@@ -8,6 +8,7 @@ mod words;
 pub use answer::Answer;
 pub use answer::AnswerDebug;
 pub use answer::AnswerPartialEq;
+pub use policy::Change;
 pub use policy::Object;
 pub use policy::ObjectPartialEq;
 pub use policy::Policy;

@@ -12,3 +12,10 @@ pub struct Policy {
     pub subject: u16,
     pub object: Object,
 }
+
+// A new number for a cell, or a new right for a policy.
+#[derive(Clone, Copy, PartialEq, Eq, Debug)]
+pub struct Change {
+    pub object: Object,
+    pub value: u32,
+}

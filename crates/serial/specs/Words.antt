@@ -7,6 +7,7 @@ use mathlib.Core.List.{List, [], _∷_}
 use lib.Dec.{eqb}
 use Rattle.protocol.specs.declared.policy.Object.{Object}
 use Rattle.protocol.specs.declared.policy.Object.the-variants.{OfCell, OfPolicy}
+pub use Rattle.protocol.specs.declared.policy.Change.{Change}
 use Rattle.protocol.specs.declared.policy.Policy.{Policy}
 use Rattle.rights.specs.Orders.{join-of, permits-of, change-of}
 use Rattle.rights.specs.declared.change.ChangeKind.{ChangeKind}
@@ -51,11 +52,6 @@ same-object (OfPolicy a) (OfPolicy b) = eqb a b
 pub record Store : Type 0 where
   pub cells : List ℕ
   pub rights : List ℕ
-
--- A new number for a cell or a policy
-pub record Change : Type 0 where
-  pub object : Object
-  pub value : ℕ
 
 -- The calls of an open transaction, by the number of the cell or the policy
 pub data Call : Type 0 where
