@@ -1,4 +1,5 @@
 // The orders of rights at their limits, and the whole table of the vector order.
+use locking::examples_stand;
 use rights::ChangeKind;
 use rights::ChangeKindDebug;
 use rights::ChangeKindPartialEq;
@@ -9,7 +10,6 @@ use rights::RightsOrder;
 use rights::VectorOrder;
 use rights::VectorRights;
 use rights::change_of;
-use rights::examples_stand;
 use std::test::*;
 
 #[test]

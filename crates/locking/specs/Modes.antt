@@ -1,4 +1,7 @@
 -- What a lock held by another transaction (first) says to a lock asked for (second), on the same cell or policy.
+use mathlib.Core.Bool.{Bool}
+use Prim.Native.Nat.{ℕ}
+use lib.Dec.{eqb}
 use Rattle.locking.specs.declared.mode.CellMode.{CellMode}
 use Rattle.locking.specs.declared.mode.CellMode.the-variants.{ReadCell, WriteCell}
 use Rattle.locking.specs.declared.mode.PolicyMode.{PolicyMode}
@@ -23,3 +26,28 @@ policy-says Deploy ReadPolicy = Compatible
 policy-says Deploy Relax = Compatible
 policy-says Deploy Restrict = Signal
 policy-says Deploy Deploy = Compatible
+
+-- Answers and modes are told apart by their numbers.
+abbrev pub answer-number : LockAnswer → ℕ
+answer-number Compatible = 0
+answer-number Conflict = 1
+answer-number Signal = 2
+
+abbrev pub same-answer : LockAnswer → LockAnswer → Bool
+same-answer a b = eqb (answer-number a) (answer-number b)
+
+abbrev pub cell-number : CellMode → ℕ
+cell-number ReadCell = 0
+cell-number WriteCell = 1
+
+abbrev pub same-cell-mode : CellMode → CellMode → Bool
+same-cell-mode m n = eqb (cell-number m) (cell-number n)
+
+abbrev pub policy-number : PolicyMode → ℕ
+policy-number ReadPolicy = 0
+policy-number Relax = 1
+policy-number Restrict = 2
+policy-number Deploy = 3
+
+abbrev pub same-policy-mode : PolicyMode → PolicyMode → Bool
+same-policy-mode m n = eqb (policy-number m) (policy-number n)

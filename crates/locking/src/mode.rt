@@ -5,13 +5,13 @@ use LockAnswer::Compatible;
 use LockAnswer::Conflict;
 use LockAnswer::Signal;
 
-#[derive(Clone, Copy, PartialEq, Eq, Debug)]
+#[derive(Clone, Copy)]
 pub enum CellMode {
     ReadCell,
     WriteCell,
 }
 
-#[derive(Clone, Copy, PartialEq, Eq, Debug)]
+#[derive(Clone, Copy)]
 pub enum PolicyMode {
     ReadPolicy,
     Relax,
@@ -19,7 +19,7 @@ pub enum PolicyMode {
     Deploy,
 }
 
-#[derive(Clone, Copy, PartialEq, Eq, Debug)]
+#[derive(Clone, Copy, PartialEq, Eq)]
 pub enum LockAnswer {
     // Yes: both may be held.
     Compatible,
@@ -33,10 +33,10 @@ pub enum LockAnswer {
 const CELL_TABLE: [[LockAnswer; 2]; 2] = [[Compatible, Conflict], [Conflict, Conflict]];
 
 const POLICY_TABLE: [[LockAnswer; 4]; 4] = [
-    [Compatible, Conflict, Conflict, Compatible],
-    [Conflict, Conflict, Conflict, Conflict],
-    [Conflict, Conflict, Conflict, Conflict],
-    [Compatible, Compatible, Signal, Compatible],
+    [Compatible, Conflict, Conflict, Compatible], // read
+    [Conflict, Conflict, Conflict, Conflict], // relax
+    [Conflict, Conflict, Conflict, Conflict], // restrict
+    [Compatible, Compatible, Signal, Compatible], // deploy
 ];
 
 pub fn cell_answer(held: CellMode, asked: CellMode) -> LockAnswer

@@ -1,6 +1,5 @@
 // Orders of rights: which codes are rights, what two rights join to, and what a right permits.
 mod change;
-mod examples;
 mod ladder;
 mod order;
 mod vector;
@@ -9,7 +8,6 @@ pub use change::ChangeKind;
 pub use change::ChangeKindDebug;
 pub use change::ChangeKindPartialEq;
 pub use change::change_of;
-pub use examples::examples_stand;
 pub use ladder::LadderOrder;
 pub use ladder::LadderRights;
 pub use order::Operation;

@@ -1,16 +1,20 @@
 // The worked examples: what the definitions come to, and that the calls answer so.
 ghost use mathlib.Core.Path.{_≡_};
 ghost use mathlib.Core.Bool.{true};
-ghost use Rattle.rights.specs.Examples.{ExamplesStand};
-use crate::change::ChangeKind;
-use crate::change::ChangeKindPartialEq;
-use crate::change::change_of;
-use crate::ladder::LadderOrder;
-use crate::ladder::LadderRights;
-use crate::order::Operation;
-use crate::order::RightsOrder;
-use crate::vector::VectorOrder;
-use crate::vector::VectorRights;
+ghost use Rattle.locking.specs.Examples.{ExamplesStand};
+use crate::mode::LockAnswer;
+use crate::mode::LockAnswerPartialEq;
+use crate::mode::PolicyMode;
+use crate::mode::policy_answer;
+use rights::ChangeKind;
+use rights::ChangeKindPartialEq;
+use rights::LadderOrder;
+use rights::LadderRights;
+use rights::Operation;
+use rights::RightsOrder;
+use rights::VectorOrder;
+use rights::VectorRights;
+use rights::change_of;
 
 fn vector_agrees() -> bool
     ensures { λ r. ⌜ r ≡ true ⌝ }
@@ -36,9 +40,17 @@ fn ladder_agrees() -> bool
         && !order.permits(20, Operation::Restrict)
 }
 
+fn locks_agree() -> bool
+    ensures { λ r. ⌜ r ≡ true ⌝ }
+{
+    policy_answer(PolicyMode::Deploy, PolicyMode::Relax) == LockAnswer::Compatible
+        && policy_answer(PolicyMode::Deploy, PolicyMode::Restrict) == LockAnswer::Signal
+        && policy_answer(PolicyMode::Relax, PolicyMode::Deploy) == LockAnswer::Conflict
+}
+
 // Whether the calls answer every example as it should be answered.
 pub fn examples_stand() -> bool
     ensures { λ r. ⌜ ExamplesStand r ⌝ }
 {
-    vector_agrees() && ladder_agrees()
+    vector_agrees() && ladder_agrees() && locks_agree()
 }

@@ -1,13 +1,17 @@
--- The worked examples, over the definitions that the calls promise.
+-- The worked examples of orders, of changes and of locks, over the definitions that the calls promise.
 use mathlib.Core.Path.{_≡_}
 use mathlib.Core.Bool.{Bool, true, false}
 use Prim.Native.Nat.{ℕ}
 use Rattle.protocol.specs.Refusals.{answered}
 use Rattle.rights.specs.Orders.{join-of, permits-of, change-of, vector-right, vector-joined, ladder-right, ladder-allows, ladder-check}
 use Rattle.rights.specs.declared.change.ChangeKind.{ChangeKind}
 use Rattle.rights.specs.declared.change.ChangeKind.the-variants.{Relaxation, Restriction}
 use Rattle.rights.specs.declared.order.Operation.{Operation}
 use Rattle.rights.specs.declared.order.Operation.the-variants.{Read, Write, Restrict}
+use Rattle.locking.specs.Modes.{policy-says}
+use Rattle.locking.specs.declared.mode.LockAnswer.the-variants.{Compatible, Conflict, Signal}
+use Rattle.locking.specs.declared.mode.PolicyMode.the-variants.{Relax, Deploy}
+use Rattle.locking.specs.declared.mode.PolicyMode.the-variants as mode
 
 abbrev vector-join : ℕ → ℕ → ℕ
 vector-join = join-of vector-right vector-joined
@@ -32,3 +36,6 @@ pub record ExamplesStand (answer : Bool) : Type 0 where
   pub ladder-20-permits-read : ladder-permits 20 Read ≡ true
   pub ladder-20-permits-write : ladder-permits 20 Write ≡ true
   pub ladder-20-forbids-restrict : ladder-permits 20 Restrict ≡ false
+  pub deploy-allows-relax : policy-says Deploy Relax ≡ Compatible
+  pub deploy-signals-restrict : policy-says Deploy mode.Restrict ≡ Signal
+  pub relax-excludes-deploy : policy-says Relax Deploy ≡ Conflict

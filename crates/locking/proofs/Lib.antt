@@ -1,0 +1,4 @@
+pub mod BitLaws
+pub mod CellLaws
+pub mod LockLaws
+pub mod PolicyLaws
