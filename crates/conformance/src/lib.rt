@@ -10,6 +10,8 @@ mod refusals;
 #[cfg(test)]
 mod rights_tests;
 #[cfg(test)]
+mod setup_tests;
+#[cfg(test)]
 mod store_tests;
 #[cfg(test)]
 mod tape_tests;

@@ -3,7 +3,7 @@ use Prim.Native.Nat.{ℕ}
 use Rattle.std.specs.declared.result.Result.{Result}
 use Rattle.std.specs.declared.result.Result.the-variants.{Ok, Err}
 use Rattle.protocol.specs.declared.refusal.Refusal.{Refusal}
-use Rattle.protocol.specs.declared.refusal.Refusal.the-variants.{TooManyOpened, NoFreeSlot, NoSuchTransaction, Absent, OtherSubject, NotPermitted, TooManyChanges, NotARight, ExceedsBuffer, TooMany, BadThreshold, BadLog}
+use Rattle.protocol.specs.declared.refusal.Refusal.the-variants.{TooManyOpened, NoFreeSlot, NoSuchTransaction, Absent, OtherSubject, NotPermitted, TooManyChanges, NotARight, ExceedsBuffer, TooMany, BadPolicies, BadRights, BadThreshold, BadLog}
 
 abbrev pub refusal-number : Refusal → ℕ
 refusal-number TooManyOpened = 1
@@ -16,6 +16,8 @@ refusal-number TooManyChanges = 7
 refusal-number NotARight = 8
 refusal-number ExceedsBuffer = 12
 refusal-number TooMany = 14
+refusal-number BadPolicies = 15
+refusal-number BadRights = 16
 refusal-number BadThreshold = 17
 refusal-number BadLog = 18
 

@@ -24,6 +24,10 @@ pub enum Refusal {
     ExceedsBuffer,
     // More numbers, cells or policies than there is room for.
     TooMany,
+    // A policy list that does not fit the rights store, the cells or itself.
+    BadPolicies,
+    // A stored code that is no right.
+    BadRights,
     // A threshold outside 1 to 100.
     BadThreshold,
     // Bytes that hold no log.
@@ -45,6 +49,8 @@ impl Refusal {
             Refusal::NotARight => 8,
             Refusal::ExceedsBuffer => 12,
             Refusal::TooMany => 14,
+            Refusal::BadPolicies => 15,
+            Refusal::BadRights => 16,
             Refusal::BadThreshold => 17,
             Refusal::BadLog => 18,
         }
