@@ -15,3 +15,5 @@ mod setup_tests;
 mod store_tests;
 #[cfg(test)]
 mod tape_tests;
+#[cfg(test)]
+mod workspace_tests;
