@@ -1,10 +1,8 @@
 // What a request is answered.
 use crate::refusal::Refusal;
-use crate::refusal::RefusalDebug;
-use crate::refusal::RefusalPartialEq;
 use crate::request::TransactionId;
 
-#[derive(Clone, Copy, PartialEq, Eq, Debug)]
+#[derive(Clone, Copy)]
 pub enum Answer {
     Granted(u32),
     Refused(Refusal),

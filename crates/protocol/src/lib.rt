@@ -6,11 +6,8 @@ mod request;
 mod words;
 
 pub use answer::Answer;
-pub use answer::AnswerDebug;
-pub use answer::AnswerPartialEq;
 pub use policy::Change;
 pub use policy::Object;
-pub use policy::ObjectPartialEq;
 pub use policy::Policy;
 pub use refusal::Refusal;
 pub use refusal::RefusalDebug;

@@ -9,7 +9,7 @@ use crate::order::RightsOrder;
 use protocol::Refusal;
 
 // The thresholds are private and in range, so that nobody has an order with others.
-#[derive(Clone, Copy, PartialEq, Eq, Debug)]
+#[derive(Clone, Copy)]
 pub struct LadderOrder {
     read: u32,
     write: u32,

@@ -5,7 +5,7 @@ ghost use Prim.Native.Nat.{ℕ};
 ghost use Rattle.rights.specs.Orders.{join-of, permits-of};
 ghost use Rattle.rights.specs.declared.order.Operation.{Operation};
 
-#[derive(Clone, Copy, PartialEq, Eq, Debug)]
+#[derive(Clone, Copy)]
 pub enum Operation {
     // Operation 0: reads a cell or shows a policy.
     Read,

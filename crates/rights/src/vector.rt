@@ -4,7 +4,7 @@ ghost use Rattle.rights.specs.Orders.{weight, vector-right, vector-joined, vec
 use crate::order::Operation;
 use crate::order::RightsOrder;
 
-#[derive(Clone, Copy, PartialEq, Eq, Debug)]
+#[derive(Clone, Copy)]
 pub struct VectorOrder;
 
 fn weight(operation: Operation) -> u32
