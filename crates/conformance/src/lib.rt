@@ -1,6 +1,6 @@
 // Tests of the crates below, with values worked out by hand.
-#[cfg(test)]
-mod line_tests;
+#![tactic(auto)]
+
 #[cfg(test)]
 mod lock_tests;
 #[cfg(test)]

@@ -1,7 +1,7 @@
 // Locks asked for, held and released, with masks and rows worked out by hand.
 use locking::{
     CellDecision, CellLocks, CellMode, CellRow, PolicyDecision, PolicyLocks, PolicyMode, PolicyRow,
-    SlotIndex, SlotSet,
+    SlotIndex,
 };
 use std::process::Abort;
 use std::test::Fail;
@@ -117,7 +117,7 @@ fn the_asker_is_not_struck(rt: HostRuntime) -> Result<(), Fail> {
 
 fn released(row: [u16; 4], at: usize) -> Result<[u16; 4], Fail> {
     match policy(row) {
-        Some(locks) => Ok(numbers(locks.release(SlotSet::only(slot(at)?)))),
+        Some(locks) => Ok(numbers(locks.release(slot(at)?))),
         None => Err(Fail::new("not compatible")),
     }
 }

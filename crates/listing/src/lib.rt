@@ -1,10 +1,11 @@
 // The listing of a tape, in words.
+#![tactic(auto)]
+
 ghost use Rattle.std.specs.Prelude.{◌≡◌, ◌≤◌, length, IfOk, string_bytes};
 ghost use Rattle.std.specs.Option.{option_map};
 ghost use Rattle.records.specs.Faults.{fault_values};
 ghost use Rattle.records.specs.Tapes.{tape_bytes};
-ghost use Rattle.lines.specs.Lines.{values_line, fault_line};
-ghost use Rattle.listing.specs.Listings.{request_line, request_lines, ending, read_size, summary, last_line, listing_of};
+ghost use Rattle.listing.specs.Listings.{request_line, request_lines, values_line, fault_line, ending, read_size, summary, last_line, listing_of};
 
 use protocol::Request;
 use records::{FaultValues, TapeFault, read_tape, record_len};

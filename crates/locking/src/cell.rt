@@ -1,6 +1,6 @@
 // Who holds which lock on a cell.
-ghost use Rattle.std.specs.Prelude.{◌≡◌, ℕ, ◌≤◌, false, not, ◌&&◌, MatchOption};
-ghost use Rattle.locking.specs.Slots.{has};
+ghost use Rattle.std.specs.Prelude.{◌≡◌, ℕ, ◌≤◌, false, MatchOption};
+ghost use Rattle.locking.specs.Slots.{has, without_bit};
 ghost use Rattle.locking.specs.Modes.{cell_says, same_cell_mode};
 ghost use Rattle.locking.specs.Locks.{Beside, put, says_so, Waits};
 ghost use Rattle.locking.specs.CellLocks.{cell_holds, cell_says_no, cell_blocks, cell_shared, CellCompatible, CellGranted};
@@ -98,10 +98,11 @@ impl CellLocks {
         self.holders(mode).contains(slot)
     }
 
-    // The slots of the set lose their locks.
-    pub fn release(self, gone: SlotSet) -> CellLocks
-        ensures { (m : CellMode) (k : ℕ) → cell_holds result.row m k ≡ (cell_holds self.row m k && not (has gone.mask k)) }
+    // The slot loses its locks.
+    pub fn release(self, slot: SlotIndex) -> CellLocks
+        ensures { (m : CellMode) (k : ℕ) → cell_holds result.row m k ≡ without_bit (cell_holds self.row m) slot.at k }
     {
+        let gone = SlotSet::empty().with(slot);
         CellLocks {
             row: CellRow {
                 readers: mask_without(self.row.readers, gone),

@@ -1,6 +1,6 @@
 // Who holds which lock on a policy.
 ghost use Rattle.std.specs.Prelude.{◌≡◌, ℕ, ◌≤◌, false, not, ◌&&◌, MatchOption};
-ghost use Rattle.locking.specs.Slots.{has};
+ghost use Rattle.locking.specs.Slots.{has, without_bit};
 ghost use Rattle.locking.specs.Modes.{policy_says, same_policy_mode};
 ghost use Rattle.locking.specs.Locks.{put, says_so, Waits};
 ghost use Rattle.locking.specs.PolicyLocks.{policy_holds, policy_says_so, policy_hears, shared, Alone, PolicyCompatible, PolicyGranted};
@@ -134,12 +134,12 @@ impl PolicyLocks {
         self.holders(mode).contains(slot)
     }
 
-    // The slots of the set lose their locks.
-    pub fn release(self, gone: SlotSet) -> PolicyLocks
-        ensures { (m : PolicyMode) (k : ℕ) → policy_holds result.row m k ≡ (policy_holds self.row m k && not (has gone.mask k)) }
+    // The slot loses its locks.
+    pub fn release(self, slot: SlotIndex) -> PolicyLocks
+        ensures { (m : PolicyMode) (k : ℕ) → policy_holds result.row m k ≡ without_bit (policy_holds self.row m) slot.at k }
     {
         PolicyLocks {
-            row: self.row.without(gone),
+            row: self.row.without(SlotSet::empty().with(slot)),
         }
     }
 

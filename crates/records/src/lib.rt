@@ -1,4 +1,6 @@
 // The records in which requests travel, and tapes of them.
+#![tactic(auto)]
+
 mod fault;
 mod field;
 mod record;

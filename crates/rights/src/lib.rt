@@ -1,4 +1,6 @@
 // Orders of rights: which codes are rights, what two rights join to, and what a right permits.
+#![tactic(auto)]
+
 mod change;
 mod ladder;
 mod order;

@@ -13,9 +13,9 @@ use Rattle.locking.specs.declared.mode.PolicyMode.TheVariants.{ReadPolicy, Relax
 use Rattle.locking.specs.declared.mode.PolicyMode.{PolicyMode}
 use Rattle.locking.specs.declared.mode.LockAnswer.TheVariants.{Conflict}
 use Rattle.locking.specs.Modes.{policy_says}
-use Rattle.serial.specs.Words.{Setup, Laws, Store, Change, set_operation, Call, Deploys, Reads, Writes, Shows, Sets, Member, change_kind}
+use Rattle.serial.specs.Words.{Setup, Laws, Store, Change, set_operation, Call, deploys, reads, writes, shows, sets, Member, change_kind}
 use Rattle.serial.specs.Changes.{stored, apply}
-use Rattle.serial.specs.Locks.{Lock, OnCell, OnPolicy}
+use Rattle.serial.specs.Locks.{Lock, on_cell, on_policy}
 use Rattle.serial.specs.Model.{Transaction}
 use Rattle.serial.specs.Serial.{Entry, Transcript, Session, note_call, recall}
 use Rattle.serial.proofs.Basics.{never, by_bool}
@@ -25,44 +25,44 @@ use Rattle.serial.proofs.Replay.{Allowed, Grants, session, Follows}
 
 -- the lock that a granted call has taken is held
 abbrev pub Locked : Transaction → Call → Type 0
-Locked x (Deploys p) = x.holds (OnPolicy Deploy p) ≡ true
-Locked x (Reads c) = x.holds (OnCell ReadCell c) ≡ true
-Locked x (Writes c v) = x.holds (OnCell WriteCell c) ≡ true
-Locked x (Shows p) = x.holds (OnPolicy ReadPolicy p) ≡ true
-Locked x (Sets p v) = (x.holds (OnPolicy Relax p) ≡ true) ⊎ (x.holds (OnPolicy Restrict p) ≡ true)
+Locked x (deploys p) = x.holds (on_policy Deploy p) ≡ true
+Locked x (reads c) = x.holds (on_cell ReadCell c) ≡ true
+Locked x (writes c v) = x.holds (on_cell WriteCell c) ≡ true
+Locked x (shows p) = x.holds (on_policy ReadPolicy p) ≡ true
+Locked x (sets p v) = (x.holds (on_policy Relax p) ≡ true) ⊎ (x.holds (on_policy Restrict p) ≡ true)
 
 abbrev pub LockedAll : Transaction → List Entry → Type 0
 LockedAll x [] = Unit {0}
 LockedAll x (k ∷ l) = Locked x k.call × LockedAll x l
 
 abbrev pub ChangeLocked : Setup → Store → Transaction → Object → ℕ → Type 0
-ChangeLocked S s x (OfCell c) v = x.holds (OnCell WriteCell c) ≡ true
+ChangeLocked S s x (OfCell c) v = x.holds (on_cell WriteCell c) ≡ true
 ChangeLocked S s x (OfPolicy p) v =
     (S.is_right v ≡ true)
-    × (((x.holds (OnPolicy Relax p) ≡ true) × (change_kind S (get_or s.rights p 0) v ≡ Relaxation)) ⊎ (x.holds (OnPolicy Restrict p) ≡ true))
+    × (((x.holds (on_policy Relax p) ≡ true) × (change_kind S (get_or s.rights p 0) v ≡ Relaxation)) ⊎ (x.holds (on_policy Restrict p) ≡ true))
 
 -- the open transaction x with the granted calls of j, on these lists
 pub record Fits (S : Setup) (s : Store) (j : Transcript) (x : Transaction) : Type 0 where
   pub subject_fits : j.subject ≡ Some x.subject
   pub replays : Follows S s j.subject j.calls
-  pub held_deployed : (p : ℕ) → x.holds (OnPolicy Deploy p) ≡ true → Member p (session j.subject j.calls).deployed
+  pub held_deployed : (p : ℕ) → x.holds (on_policy Deploy p) ≡ true → Member p (session j.subject j.calls).deployed
   pub changes_seen : SeesAlike (session j.subject j.calls).changes x.changes
   pub changes_written : WritesAlike (session j.subject j.calls).changes x.changes
   pub changes_once : Once x.changes
   pub locked : LockedAll x j.calls
   pub changes_locked : (k : Change) → Member k x.changes → ChangeLocked S s x k.object k.value
 
-deployed_after : (x : Transaction) (e : Session) (c : Call) (p : ℕ) → ((q : ℕ) → Member q e.deployed → x.holds (OnPolicy Deploy q) ≡ true)
-    → Locked x c → Member p (note_call e c).deployed → x.holds (OnPolicy Deploy p) ≡ true
-deployed_after x e (Deploys q) p h l (inl i) = ap (λ z. x.holds (OnPolicy Deploy z)) i ∙ l
-deployed_after x e (Deploys q) p h l (inr i) = h p i
-deployed_after x e (Reads c) p h l i = h p i
-deployed_after x e (Writes c v) p h l i = h p i
-deployed_after x e (Shows q) p h l i = h p i
-deployed_after x e (Sets q v) p h l i = h p i
+deployed_after : (x : Transaction) (e : Session) (c : Call) (p : ℕ) → ((q : ℕ) → Member q e.deployed → x.holds (on_policy Deploy q) ≡ true)
+    → Locked x c → Member p (note_call e c).deployed → x.holds (on_policy Deploy p) ≡ true
+deployed_after x e (deploys q) p h l (inl i) = ap (λ z. x.holds (on_policy Deploy z)) i ∙ l
+deployed_after x e (deploys q) p h l (inr i) = h p i
+deployed_after x e (reads c) p h l i = h p i
+deployed_after x e (writes c v) p h l i = h p i
+deployed_after x e (shows q) p h l i = h p i
+deployed_after x e (sets q v) p h l i = h p i
 
 -- what the calls deployed is held
-pub deployed_held : (x : Transaction) (u : Option ℕ) (l : List Entry) → LockedAll x l → (p : ℕ) → Member p (session u l).deployed → x.holds (OnPolicy Deploy p) ≡ true
+pub deployed_held : (x : Transaction) (u : Option ℕ) (l : List Entry) → LockedAll x l → (p : ℕ) → Member p (session u l).deployed → x.holds (on_policy Deploy p) ≡ true
 unfolding session
 deployed_held x u [] k p i = absurd i
 deployed_held x u (e ∷ l) k p i = deployed_after x (session u l) e.call p (deployed_held x u l k.1) k.0 i
@@ -76,28 +76,28 @@ relaxation_joins S old new e =
 
 -- The lists changed only where the transaction y does not mind.
 pub record Frame (S : Setup) (y : Transaction) (s s' : Store) : Type 0 where
-  pub cell_same : (c : ℕ) → y.holds (OnCell ReadCell c) ≡ true → get_or s'.cells c 0 ≡ get_or s.cells c 0
-  pub shown_same : (p : ℕ) → y.holds (OnPolicy ReadPolicy p) ≡ true → get_or s'.rights p 0 ≡ get_or s.rights p 0
-  pub relaxed_same : (p : ℕ) → y.holds (OnPolicy Relax p) ≡ true → get_or s'.rights p 0 ≡ get_or s.rights p 0
-  pub restricted_same : (p : ℕ) → y.holds (OnPolicy Restrict p) ≡ true → get_or s'.rights p 0 ≡ get_or s.rights p 0
-  pub deploy_more : (p : ℕ) (op : Operation) (pol : Policy) → y.holds (OnPolicy Deploy p) ≡ true → slice_get S.policies p ≡ Some pol
+  pub cell_same : (c : ℕ) → y.holds (on_cell ReadCell c) ≡ true → get_or s'.cells c 0 ≡ get_or s.cells c 0
+  pub shown_same : (p : ℕ) → y.holds (on_policy ReadPolicy p) ≡ true → get_or s'.rights p 0 ≡ get_or s.rights p 0
+  pub relaxed_same : (p : ℕ) → y.holds (on_policy Relax p) ≡ true → get_or s'.rights p 0 ≡ get_or s.rights p 0
+  pub restricted_same : (p : ℕ) → y.holds (on_policy Restrict p) ≡ true → get_or s'.rights p 0 ≡ get_or s.rights p 0
+  pub deploy_more : (p : ℕ) (op : Operation) (pol : Policy) → y.holds (on_policy Deploy p) ≡ true → slice_get S.policies p ≡ Some pol
       → S.permits (get_or s.rights p 0) op ≡ true → S.permits (get_or s'.rights p 0) op ≡ true
 
 allowed_frame : (S : Setup) (y : Transaction) (s s' : Store) (e : Session) (o : Object) (op : Operation) → Frame S y s s'
-    → ((q : ℕ) → Member q e.deployed → y.holds (OnPolicy Deploy q) ≡ true) → Allowed S s e o op → Allowed S s' e o op
+    → ((q : ℕ) → Member q e.deployed → y.holds (on_policy Deploy q) ≡ true) → Allowed S s e o op → Allowed S s' e o op
 allowed_frame S y s s' e o op f h (i, pol, m, n, b, g) = (i, pol, m, n, b, f.deploy_more i op pol (h i m) n g)
 
-set_right_same : (S : Setup) (y : Transaction) (s s' : Store) → Frame S y s s' → (p v : ℕ) → Locked y (Sets p v) → get_or s'.rights p 0 ≡ get_or s.rights p 0
+set_right_same : (S : Setup) (y : Transaction) (s s' : Store) → Frame S y s s' → (p v : ℕ) → Locked y (sets p v) → get_or s'.rights p 0 ≡ get_or s.rights p 0
 set_right_same S y s s' f p v (inl h) = f.relaxed_same p h
 set_right_same S y s s' f p v (inr h) = f.restricted_same p h
 
 grants_frame : (S : Setup) (y : Transaction) (s s' : Store) (e : Session) (c : Call) (a : ℕ) → Frame S y s s'
-    → ((q : ℕ) → Member q e.deployed → y.holds (OnPolicy Deploy q) ≡ true) → Locked y c → Grants S s e c a → Grants S s' e c a
-grants_frame S y s s' e (Deploys p) a f h l g = g
-grants_frame S y s s' e (Reads c) a f h l g = (allowed_frame S y s s' e (OfCell c) Read f h g.0, g.1 ∙ ap (recall e.changes (OfCell c)) (sym (f.cell_same c l)))
-grants_frame S y s s' e (Writes c v) a f h l g = allowed_frame S y s s' e (OfCell c) Write f h g
-grants_frame S y s s' e (Shows p) a f h l g = (allowed_frame S y s s' e (OfPolicy p) Read f h g.0, g.1 ∙ ap (recall e.changes (OfPolicy p)) (sym (f.shown_same p l)))
-grants_frame S y s s' e (Sets p v) a f h l g =
+    → ((q : ℕ) → Member q e.deployed → y.holds (on_policy Deploy q) ≡ true) → Locked y c → Grants S s e c a → Grants S s' e c a
+grants_frame S y s s' e (deploys p) a f h l g = g
+grants_frame S y s s' e (reads c) a f h l g = (allowed_frame S y s s' e (OfCell c) Read f h g.0, g.1 ∙ ap (recall e.changes (OfCell c)) (sym (f.cell_same c l)))
+grants_frame S y s s' e (writes c v) a f h l g = allowed_frame S y s s' e (OfCell c) Write f h g
+grants_frame S y s s' e (shows p) a f h l g = (allowed_frame S y s s' e (OfPolicy p) Read f h g.0, g.1 ∙ ap (recall e.changes (OfPolicy p)) (sym (f.shown_same p l)))
+grants_frame S y s s' e (sets p v) a f h l g =
     subst (λ r. Allowed S s' e (OfPolicy p) (set_operation (change_kind S r v))) (sym (set_right_same S y s s' f p v l))
     (allowed_frame S y s s' e (OfPolicy p) (set_operation (change_kind S (get_or s.rights p 0) v)) f h g)
 
@@ -137,7 +137,7 @@ wrote_locked S s j x o n k (c, m, e, v) =
 module _ (S : Setup) (s : Store) (j : Transcript) (x y : Transaction) (k : Fits S s j x)
     (apart : (l m : Lock) → x.holds l ≡ true → y.holds m ≡ true → Coexist l m) where
   right_same : (p : ℕ)
-      → (x.holds (OnPolicy Relax p) ≡ true → ⊥) → (x.holds (OnPolicy Restrict p) ≡ true → ⊥)
+      → (x.holds (on_policy Relax p) ≡ true → ⊥) → (x.holds (on_policy Restrict p) ≡ true → ⊥)
       → get_or (apply x.changes s).rights p 0 ≡ get_or s.rights p 0
   right_same p a b =
       ⊎_elim (λ e. e)
@@ -145,19 +145,19 @@ module _ (S : Setup) (s : Store) (j : Transcript) (x y : Transaction) (k : Fits 
       (wrote_locked S s j x (OfPolicy p) (stored (apply x.changes s) (OfPolicy p)) k w).1)
       (apply_cases x.changes s (OfPolicy p))
 
-  kept_by : (m : PolicyMode) (p : ℕ) → y.holds (OnPolicy m p) ≡ true
+  kept_by : (m : PolicyMode) (p : ℕ) → y.holds (on_policy m p) ≡ true
       → policy_says m Relax ≡ Conflict → policy_says Relax m ≡ Conflict → policy_says m Restrict ≡ Conflict → policy_says Restrict m ≡ Conflict
       → get_or (apply x.changes s).rights p 0 ≡ get_or s.rights p 0
   kept_by m p h a b c d = right_same p
-      (λ r. no_and_no Relax m p a b (apart (OnPolicy Relax p) (OnPolicy m p) r h))
-      (λ r. no_and_no Restrict m p c d (apart (OnPolicy Restrict p) (OnPolicy m p) r h))
+      (λ r. no_and_no Relax m p a b (apart (on_policy Relax p) (on_policy m p) r h))
+      (λ r. no_and_no Restrict m p c d (apart (on_policy Restrict p) (on_policy m p) r h))
 
   -- a commit of x is such a change for y, whose locks coexist with those of x
   pub commit_frame : Laws S → ((p : ℕ) (pol : Policy) → slice_get S.policies p ≡ Some pol → S.is_right (get_or s.rights p 0) ≡ true)
       → Frame S y s (apply x.changes s)
   commit_frame laws rights = record {
     cell_same = λ c h. ⊎_elim (λ e. e)
-        (λ w. write_read c (apart (OnCell WriteCell c) (OnCell ReadCell c) (wrote_locked S s j x (OfCell c) (stored (apply x.changes s) (OfCell c)) k w) h))
+        (λ w. write_read c (apart (on_cell WriteCell c) (on_cell ReadCell c) (wrote_locked S s j x (OfCell c) (stored (apply x.changes s) (OfCell c)) k w) h))
         (apply_cases x.changes s (OfCell c));
     shown_same = λ p h. kept_by ReadPolicy p h refl refl refl refl;
     relaxed_same = λ p h. kept_by Relax p h refl refl refl refl;
@@ -169,7 +169,7 @@ module _ (S : Setup) (s : Store) (j : Transcript) (x y : Transaction) (k : Fits 
         ⊎_elim
         (λ r. ap (λ z. S.permits z op) (sym (relaxation_joins S (get_or s.rights p 0) v r.1))
         ∙ laws.join_permits (get_or s.rights p 0) v op (rights p pol n) c.0 (or_left (S.permits (get_or s.rights p 0) op) (S.permits v op) g))
-        (λ r. restrict_deploy p (apart (OnPolicy Restrict p) (OnPolicy Deploy p) r h))
+        (λ r. restrict_deploy p (apart (on_policy Restrict p) (on_policy Deploy p) r h))
         c.1)
         (apply_cases x.changes s (OfPolicy p));
   }

@@ -15,4 +15,3 @@ pub mod Counts
 pub mod Struck
 pub mod Parts
 pub mod Main
-pub mod OneDay

@@ -9,7 +9,7 @@ use Rattle.locking.specs.declared.mode.LockAnswer.{LockAnswer}
 use Rattle.locking.specs.declared.mode.LockAnswer.TheVariants.{Compatible, Conflict, Signal}
 use Rattle.locking.specs.Modes.{cell_says, policy_says}
 use Rattle.serial.specs.Words.{Member}
-use Rattle.serial.specs.Locks.{Lock, OnCell, OnPolicy, says, locks_beside, worse, held_say}
+use Rattle.serial.specs.Locks.{Lock, on_cell, on_policy, says, locks_beside, worse, held_say}
 use Rattle.serial.specs.Model.{Slot, open_slot, Transaction, verdict, is_signal, is_conflict, named, find, blocks, lower, blocker}
 use Rattle.serial.proofs.Basics.{never, clash, by_bool, free_not_open}
 
@@ -51,22 +51,22 @@ held_say_signal holds l (k ∷ ms) e =
     (λ b. held_say_signal holds l ms b)
     (worse_either (cond (holds k) (says k l) Compatible) (held_say holds l ms) e)
 
-cells_beside : (m k : CellMode) (i j : ℕ) → i ≡ j → Member (OnCell m i) (locks_beside (OnCell k j))
-cells_beside ReadCell k i j e = inl (ap (OnCell ReadCell) e)
-cells_beside WriteCell k i j e = inr (inl (ap (OnCell WriteCell) e))
+cells_beside : (m k : CellMode) (i j : ℕ) → i ≡ j → Member (on_cell m i) (locks_beside (on_cell k j))
+cells_beside ReadCell k i j e = inl (ap (on_cell ReadCell) e)
+cells_beside WriteCell k i j e = inr (inl (ap (on_cell WriteCell) e))
 
-policies_beside : (m k : PolicyMode) (i j : ℕ) → i ≡ j → Member (OnPolicy m i) (locks_beside (OnPolicy k j))
-policies_beside ReadPolicy k i j e = inl (ap (OnPolicy ReadPolicy) e)
-policies_beside Relax k i j e = inr (inl (ap (OnPolicy Relax) e))
-policies_beside Restrict k i j e = inr (inr (inl (ap (OnPolicy Restrict) e)))
-policies_beside Deploy k i j e = inr (inr (inr (inl (ap (OnPolicy Deploy) e))))
+policies_beside : (m k : PolicyMode) (i j : ℕ) → i ≡ j → Member (on_policy m i) (locks_beside (on_policy k j))
+policies_beside ReadPolicy k i j e = inl (ap (on_policy ReadPolicy) e)
+policies_beside Relax k i j e = inr (inl (ap (on_policy Relax) e))
+policies_beside Restrict k i j e = inr (inr (inl (ap (on_policy Restrict) e)))
+policies_beside Deploy k i j e = inr (inr (inr (inl (ap (on_policy Deploy) e))))
 
 beside : (m l : Lock) → Member m (locks_beside l) ⊎ (says m l ≡ Compatible)
-beside (OnCell m i) (OnCell k j) =
+beside (on_cell m i) (on_cell k j) =
     by_bool (eqb i j) (λ e. inl (cells_beside m k i j (eqb-true i j e))) (λ e. inr (cond-false (eqb i j) (cell_says m k) Compatible e))
-beside (OnCell m i) (OnPolicy k j) = inr refl
-beside (OnPolicy m i) (OnCell k j) = inr refl
-beside (OnPolicy m i) (OnPolicy k j) =
+beside (on_cell m i) (on_policy k j) = inr refl
+beside (on_policy m i) (on_cell k j) = inr refl
+beside (on_policy m i) (on_policy k j) =
     by_bool (eqb i j) (λ e. inl (policies_beside m k i j (eqb-true i j e))) (λ e. inr (cond-false (eqb i j) (policy_says m k) Compatible e))
 
 counts_not : (x y : Transaction) (l : Lock) → x.holds l ≡ false → (x.number ≡ y.number → ⊥) → verdict x l y ≡ held_say y.holds l (locks_beside l)
@@ -107,24 +107,24 @@ cell_signal ReadCell WriteCell e = never (cc)
 cell_signal WriteCell k e = never (cc)
 
 -- only a held deploy lock signals, and only to a restrict lock of its policy
-pub says_signal : (m l : Lock) → says m l ≡ Signal → (p : ℕ) × (m ≡ OnPolicy Deploy p) × (l ≡ OnPolicy Restrict p)
-says_signal (OnCell m i) (OnCell k j) e =
+pub says_signal : (m l : Lock) → says m l ≡ Signal → (p : ℕ) × (m ≡ on_policy Deploy p) × (l ≡ on_policy Restrict p)
+says_signal (on_cell m i) (on_cell k j) e =
     by_bool (eqb i j)
     (λ t. cell_signal m k (sym (cond-true (eqb i j) (cell_says m k) Compatible t) ∙ e))
     (λ t. let f = cond-false (eqb i j) (cell_says m k) Compatible t in never (cc))
-says_signal (OnCell m i) (OnPolicy k j) e = never (cc)
-says_signal (OnPolicy m i) (OnCell k j) e = never (cc)
-says_signal (OnPolicy m i) (OnPolicy k j) e =
+says_signal (on_cell m i) (on_policy k j) e = never (cc)
+says_signal (on_policy m i) (on_cell k j) e = never (cc)
+says_signal (on_policy m i) (on_policy k j) e =
     by_bool (eqb i j)
     (λ t. let w = policy_signal m k (sym (cond-true (eqb i j) (policy_says m k) Compatible t) ∙ e) in
-    (j, ap (λ z. OnPolicy m z) (eqb-true i j t) ∙ ap (λ z. OnPolicy z j) w.0, ap (λ z. OnPolicy z j) w.1))
+    (j, ap (λ z. on_policy m z) (eqb-true i j t) ∙ ap (λ z. on_policy z j) w.0, ap (λ z. on_policy z j) w.1))
     (λ t. let f = cond-false (eqb i j) (policy_says m k) Compatible t in never (cc))
 
 -- what it takes for a transaction to be signalled
 pub record Signalled (x : Transaction) (l : Lock) (y : Transaction) : Type 0 where
   pub policy : ℕ
-  pub asked : l ≡ OnPolicy Restrict policy
-  pub deployed : y.holds (OnPolicy Deploy policy) ≡ true
+  pub asked : l ≡ on_policy Restrict policy
+  pub deployed : y.holds (on_policy Deploy policy) ≡ true
   pub new : x.holds l ≡ false
   pub other : x.number ≡ y.number → ⊥
 
@@ -149,12 +149,12 @@ signal_means x y l e =
     or_clash false c p q = clash c p q
 
 -- and that it suffices
-pub signalled_if : (x y : Transaction) (p : ℕ) → x.holds (OnPolicy Restrict p) ≡ false → (x.number ≡ y.number → ⊥)
-    → y.holds (OnPolicy Deploy p) ≡ true → is_conflict (verdict x (OnPolicy Restrict p) y) ≡ false → is_signal (verdict x (OnPolicy Restrict p) y) ≡ true
+pub signalled_if : (x y : Transaction) (p : ℕ) → x.holds (on_policy Restrict p) ≡ false → (x.number ≡ y.number → ⊥)
+    → y.holds (on_policy Deploy p) ≡ true → is_conflict (verdict x (on_policy Restrict p) y) ≡ false → is_signal (verdict x (on_policy Restrict p) y) ≡ true
 signalled_if x y p h d k c =
-    by_bool (is_signal (verdict x (OnPolicy Restrict p) y)) (λ e. e)
+    by_bool (is_signal (verdict x (on_policy Restrict p) y)) (λ e. e)
     (λ e. let s = sym (cond-true (eqb p p) Signal Compatible (eq-eqb p p refl))
-    ∙ verdict_ok x y (OnPolicy Restrict p) (OnPolicy Deploy p) h d (neither (verdict x (OnPolicy Restrict p) y) c e) k in never (cc))
+    ∙ verdict_ok x y (on_policy Restrict p) (on_policy Deploy p) h d (neither (verdict x (on_policy Restrict p) y) c e) k in never (cc))
 
 lower_none : (a b : Option ℕ) → lower a b ≡ None → (a ≡ None) × (b ≡ None)
 lower_none None b e = (refl, e)
@@ -175,21 +175,21 @@ unblocked x l (s ∷ ss) e u y f =
 
 -- The pairs that do not coexist
 
-same_cell : (m k : CellMode) (c : ℕ) → says (OnCell m c) (OnCell k c) ≡ cell_says m k
+same_cell : (m k : CellMode) (c : ℕ) → says (on_cell m c) (on_cell k c) ≡ cell_says m k
 same_cell m k c = cond-true (eqb c c) (cell_says m k) Compatible (eq-eqb c c refl)
 
-same_policy : (m k : PolicyMode) (p : ℕ) → says (OnPolicy m p) (OnPolicy k p) ≡ policy_says m k
+same_policy : (m k : PolicyMode) (p : ℕ) → says (on_policy m p) (on_policy k p) ≡ policy_says m k
 same_policy m k p = cond-true (eqb p p) (policy_says m k) Compatible (eq-eqb p p refl)
 
 -- locks that say no to one another
-pub no_and_no : {A : Type 0} (m k : PolicyMode) (p : ℕ) → policy_says k m ≡ Conflict → policy_says m k ≡ Conflict → Coexist (OnPolicy m p) (OnPolicy k p) → A
+pub no_and_no : {A : Type 0} (m k : PolicyMode) (p : ℕ) → policy_says k m ≡ Conflict → policy_says m k ≡ Conflict → Coexist (on_policy m p) (on_policy k p) → A
 no_and_no m k p a b (inl e) = let f = same_policy k m p in never (cc)
 no_and_no m k p a b (inr e) = let f = same_policy m k p in never (cc)
 
-pub write_read : {A : Type 0} (c : ℕ) → Coexist (OnCell WriteCell c) (OnCell ReadCell c) → A
+pub write_read : {A : Type 0} (c : ℕ) → Coexist (on_cell WriteCell c) (on_cell ReadCell c) → A
 write_read c (inl e) = let f = same_cell ReadCell WriteCell c in never (cc)
 write_read c (inr e) = let f = same_cell WriteCell ReadCell c in never (cc)
 
-pub restrict_deploy : {A : Type 0} (p : ℕ) → Coexist (OnPolicy Restrict p) (OnPolicy Deploy p) → A
+pub restrict_deploy : {A : Type 0} (p : ℕ) → Coexist (on_policy Restrict p) (on_policy Deploy p) → A
 restrict_deploy p (inl e) = let f = same_policy Deploy Restrict p in never (cc)
 restrict_deploy p (inr e) = let f = same_policy Restrict Deploy p in never (cc)

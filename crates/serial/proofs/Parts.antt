@@ -5,8 +5,8 @@ use Rattle.protocol.specs.declared.request.Request.{Request}
 use Rattle.protocol.specs.declared.answer.Answer.TheVariants.{Granted}
 use Rattle.rights.specs.declared.change.ChangeKind.TheVariants.{Restriction}
 use Rattle.locking.specs.declared.mode.PolicyMode.TheVariants.{Restrict, Deploy}
-use Rattle.serial.specs.Words.{Setup, Laws, Store, Call, Deploys, Reads, Writes, Shows, Sets, Member, change_kind}
-use Rattle.serial.specs.Locks.{Lock, OnPolicy, lock_number}
+use Rattle.serial.specs.Words.{Setup, Laws, Store, Call, deploys, reads, writes, shows, sets, Member, change_kind}
+use Rattle.serial.specs.Locks.{Lock, on_policy, lock_number}
 use Rattle.serial.specs.Requests.{Asked, asks_open, asks_call, asks_commit, asks_give_up, asked}
 use Rattle.serial.specs.Model.{State, Slot, open_slot, Transaction, find, verdict, is_signal, is_conflict, lock_for, call_answer, perform, answer, after, advance, signalled, blocker, set_mode}
 use Rattle.serial.specs.Serial.{Entry, note_call, Session, Replays, serial_store}
@@ -27,39 +27,39 @@ use Rattle.serial.proofs.Struck.{IsAborted, IsOpen, answers_aborted, struck_stri
 
 -- a deployed policy has a granted deploy among the calls
 deployed_by : (c : Call) (a : ℕ) (e : Session) (l : List Entry) (p : ℕ) → Member p (note_call e c).deployed
-    → (Member p e.deployed → (b : ℕ) × Member (record { call = Deploys p; answer = b }) l)
-    → (b : ℕ) × Member (record { call = Deploys p; answer = b }) (record { call = c; answer = a } ∷ l)
-deployed_by (Deploys q) a e l p (inl i) f = (a, inl (ap (λ z. record { call = Deploys z; answer = a }) i))
-deployed_by (Deploys q) a e l p (inr i) f = let w = f i in (w.0, inr w.1)
-deployed_by (Reads c) a e l p i f = let w = f i in (w.0, inr w.1)
-deployed_by (Writes c v) a e l p i f = let w = f i in (w.0, inr w.1)
-deployed_by (Shows q) a e l p i f = let w = f i in (w.0, inr w.1)
-deployed_by (Sets q v) a e l p i f = let w = f i in (w.0, inr w.1)
+    → (Member p e.deployed → (b : ℕ) × Member (record { call = deploys p; answer = b }) l)
+    → (b : ℕ) × Member (record { call = deploys p; answer = b }) (record { call = c; answer = a } ∷ l)
+deployed_by (deploys q) a e l p (inl i) f = (a, inl (ap (λ z. record { call = deploys z; answer = a }) i))
+deployed_by (deploys q) a e l p (inr i) f = let w = f i in (w.0, inr w.1)
+deployed_by (reads c) a e l p i f = let w = f i in (w.0, inr w.1)
+deployed_by (writes c v) a e l p i f = let w = f i in (w.0, inr w.1)
+deployed_by (shows q) a e l p i f = let w = f i in (w.0, inr w.1)
+deployed_by (sets q v) a e l p i f = let w = f i in (w.0, inr w.1)
 
-deployed_entry : (u : Option ℕ) (l : List Entry) (p : ℕ) → Member p (session u l).deployed → (a : ℕ) × Member (record { call = Deploys p; answer = a }) l
+deployed_entry : (u : Option ℕ) (l : List Entry) (p : ℕ) → Member p (session u l).deployed → (a : ℕ) × Member (record { call = deploys p; answer = a }) l
 unfolding session
 deployed_entry u [] p i = absurd i
 deployed_entry u (k ∷ l) p i = deployed_by k.call k.answer (session u l) l p i (deployed_entry u l p)
 
-entry_held : (x : Transaction) (l : List Entry) (p a : ℕ) → LockedAll x l → Member (record { call = Deploys p; answer = a }) l → x.holds (OnPolicy Deploy p) ≡ true
+entry_held : (x : Transaction) (l : List Entry) (p a : ℕ) → LockedAll x l → Member (record { call = deploys p; answer = a }) l → x.holds (on_policy Deploy p) ≡ true
 entry_held x [] p a k i = absurd i
 entry_held x (e ∷ l) p a k (inl i) = subst (λ (z : Entry). Locked x z.call) (sym i) k.0
 entry_held x (e ∷ l) p a k (inr i) = entry_held x l p a k.1 i
 
 -- only a restricting set takes a restrict lock
-lock_restrict : (S : Setup) (s : Store) (c : Call) (p : ℕ) → lock_for S s c ≡ OnPolicy Restrict p → (v : ℕ) × (c ≡ Sets p v) × (change_kind S (get_or s.rights p 0) v ≡ Restriction)
+lock_restrict : (S : Setup) (s : Store) (c : Call) (p : ℕ) → lock_for S s c ≡ on_policy Restrict p → (v : ℕ) × (c ≡ sets p v) × (change_kind S (get_or s.rights p 0) v ≡ Restriction)
 unfolding lock_for
-lock_restrict S s (Deploys q) p e = never (cc)
-lock_restrict S s (Reads c) p e = never (cc)
-lock_restrict S s (Writes c v) p e = never (cc)
-lock_restrict S s (Shows q) p e = never (cc)
-lock_restrict S s (Sets q v) p e =
+lock_restrict S s (deploys q) p e = never (cc)
+lock_restrict S s (reads c) p e = never (cc)
+lock_restrict S s (writes c v) p e = never (cc)
+lock_restrict S s (shows q) p e = never (cc)
+lock_restrict S s (sets q v) p e =
     let i : q ≡ p = ap lock_number e in (
       v,
-      ap (λ z. Sets z v) i,
+      ap (λ z. sets z v) i,
       ap (λ z. change_kind S (get_or s.rights z 0) v) (sym i)
           ∙ by_kind (change_kind S (get_or s.rights q 0) v)
-          (λ b. let f = ap (λ k. OnPolicy (set_mode k) q) b in never (cc))
+          (λ b. let f = ap (λ k. on_policy (set_mode k) q) b in never (cc))
           (λ b. b),
     )
 
@@ -101,36 +101,36 @@ module _ (S : Setup) (laws : Laws S) (σ₀ : State) (adm : Admitted S σ₀) wh
   same_kind run p v = ap (λ (z : Store). change_kind S (get_or z.rights p 0) v) (inv_of run).ends
 
   -- who has deployed a policy holds its deploy lock, and the other way round
-  deployer_holds : {h : History} {σ : State} (run : Run S σ₀ h σ) (u p : ℕ) (z : Transaction) → find u σ.slots ≡ open_slot z → HasDeployed h u p → z.holds (OnPolicy Deploy p) ≡ true
+  deployer_holds : {h : History} {σ : State} (run : Run S σ₀ h σ) (u p : ℕ) (z : Transaction) → find u σ.slots ≡ open_slot z → HasDeployed h u p → z.holds (on_policy Deploy p) ≡ true
   deployer_holds {h = h} run u p z e (a, m) = entry_held z (transcript h u).calls p a ((inv_of run).fits u z e).locked m
 
-  holds_deployed : {h : History} {σ : State} (run : Run S σ₀ h σ) (u p : ℕ) (z : Transaction) → find u σ.slots ≡ open_slot z → z.holds (OnPolicy Deploy p) ≡ true → HasDeployed h u p
+  holds_deployed : {h : History} {σ : State} (run : Run S σ₀ h σ) (u p : ℕ) (z : Transaction) → find u σ.slots ≡ open_slot z → z.holds (on_policy Deploy p) ≡ true → HasDeployed h u p
   holds_deployed {h = h} run u p z e k = deployed_entry (transcript h u).subject (transcript h u).calls p (((inv_of run).fits u z e).held_deployed p k)
 
   -- an unblocked restriction signals each other deployer
   restriction_signals : {h : History} {σ : State} (run : Run S σ₀ h σ) (t p v u : ℕ) (x z : Transaction)
-      → find t σ.slots ≡ open_slot x → blocker x (lock_for S σ.store (Sets p v)) σ.slots ≡ None → lock_for S σ.store (Sets p v) ≡ OnPolicy Restrict p
-      → (u ≡ t → ⊥) → find u σ.slots ≡ open_slot z → z.holds (OnPolicy Deploy p) ≡ true → is_signal (verdict x (lock_for S σ.store (Sets p v)) z) ≡ true
+      → find t σ.slots ≡ open_slot x → blocker x (lock_for S σ.store (sets p v)) σ.slots ≡ None → lock_for S σ.store (sets p v) ≡ on_policy Restrict p
+      → (u ≡ t → ⊥) → find u σ.slots ≡ open_slot z → z.holds (on_policy Deploy p) ≡ true → is_signal (verdict x (lock_for S σ.store (sets p v)) z) ≡ true
   restriction_signals {σ = σ} run t p v u x z e b q d f k =
       subst (λ l. is_signal (verdict x l z) ≡ true) (sym q)
       (signalled_if x z p
-      (by_bool (x.holds (OnPolicy Restrict p))
-      (λ h. restrict_deploy p ((inv_of run).coexist t u x z e f (λ i. d (sym i)) (OnPolicy Restrict p) (OnPolicy Deploy p) h k))
+      (by_bool (x.holds (on_policy Restrict p))
+      (λ h. restrict_deploy p ((inv_of run).coexist t u x z e f (λ i. d (sym i)) (on_policy Restrict p) (on_policy Deploy p) h k))
       (λ h. h))
       (λ i. d (sym (find_number u σ.slots z f) ∙ (sym i ∙ find_number t σ.slots x e)))
       k
-      (subst (λ l. is_conflict (verdict x l z) ≡ false) q (unblocked x (lock_for S σ.store (Sets p v)) σ.slots b u z f)))
+      (subst (λ l. is_conflict (verdict x l z) ≡ false) q (unblocked x (lock_for S σ.store (sets p v)) σ.slots b u z f)))
 
   pub strikes_deployers : {h : History} {σ : State} (run : Run S σ₀ h σ) (r : Request) (t p n : ℕ) → Restricts run r t p n → (u : ℕ) → Deployers run t p u → Strikes S σ r u
   strikes_deployers {h = h} {σ = σ} run r t p n (v, k, a, q) u (d, o, y) =
       let z = open_in_slot S laws σ₀ adm run u o in
       struck_strikes S σ r u z.0 z.1
-      (granted_call (λ w. IsAborted w.slots u) S σ r t (Sets p v) n k a
+      (granted_call (λ w. IsAborted w.slots u) S σ r t (sets p v) n k a
       (λ x e b g. (
         z.0.number,
         x.number,
-        lock_number (lock_for S σ.store (Sets p v)),
-        struck_after x z.0 (lock_for S σ.store (Sets p v)) (Sets p v) σ.slots t u e z.1 d
+        lock_number (lock_for S σ.store (sets p v)),
+        struck_after x z.0 (lock_for S σ.store (sets p v)) (sets p v) σ.slots t u e z.1 d
             (restriction_signals run t p v u x z.0 e b (set_lock_restrict S σ.store p v (sym (same_kind run p v) ∙ q)) d z.1 (deployer_holds run u p z.0 z.1 y)),
       )))
 
@@ -138,31 +138,31 @@ module _ (S : Setup) (laws : Laws S) (σ₀ : State) (adm : Admitted S σ₀) wh
       → (us : List ℕ) × NoDuplicate us × ((u : ℕ) → Member u us ↔ Deployers run t p u) × (length us ≡ n)
   unfolding call_answer
   counts_struck {h = h} {σ = σ} run r t p n (v, k, a, q) =
-      granted_call (λ w. (us : List ℕ) × NoDuplicate us × ((u : ℕ) → Member u us ↔ Deployers run t p u) × (length us ≡ n)) S σ r t (Sets p v) n k a
+      granted_call (λ w. (us : List ℕ) × NoDuplicate us × ((u : ℕ) → Member u us ↔ Deployers run t p u) × (length us ≡ n)) S σ r t (sets p v) n k a
       (λ x e b g. (
-        signalled x (lock_for S σ.store (Sets p v)) σ.slots,
-        signalled_once x (lock_for S σ.store (Sets p v)) σ.slots (inv_of run).distinct,
+        signalled x (lock_for S σ.store (sets p v)) σ.slots,
+        signalled_once x (lock_for S σ.store (sets p v)) σ.slots (inv_of run).distinct,
         (λ u. (to x e u, from x e b u)),
         g,
       ))
     where
-      l_is : lock_for S σ.store (Sets p v) ≡ OnPolicy Restrict p
+      l_is : lock_for S σ.store (sets p v) ≡ on_policy Restrict p
       l_is = set_lock_restrict S σ.store p v (sym (same_kind run p v) ∙ q)
 
-      to : (x : Transaction) → find t σ.slots ≡ open_slot x → (u : ℕ) → Member u (signalled x (lock_for S σ.store (Sets p v)) σ.slots) → Deployers run t p u
+      to : (x : Transaction) → find t σ.slots ≡ open_slot x → (u : ℕ) → Member u (signalled x (lock_for S σ.store (sets p v)) σ.slots) → Deployers run t p u
       to x e u m =
-          let w = signalled_found x (lock_for S σ.store (Sets p v)) σ.slots (inv_of run).distinct u m in
-          let s = signal_means x w.0 (lock_for S σ.store (Sets p v)) w.2 in (
+          let w = signalled_found x (lock_for S σ.store (sets p v)) σ.slots (inv_of run).distinct u m in
+          let s = signal_means x w.0 (lock_for S σ.store (sets p v)) w.2 in (
             (λ i. s.other (find_number t σ.slots x e ∙ (sym i ∙ sym (find_number u σ.slots w.0 w.1)))),
             slot_open_in S laws σ₀ adm run u (w.0, w.1),
-            holds_deployed run u p w.0 w.1 (ap (λ i. w.0.holds (OnPolicy Deploy i)) (ap lock_number (sym l_is ∙ s.asked)) ∙ s.deployed),
+            holds_deployed run u p w.0 w.1 (ap (λ i. w.0.holds (on_policy Deploy i)) (ap lock_number (sym l_is ∙ s.asked)) ∙ s.deployed),
           )
 
-      from : (x : Transaction) → find t σ.slots ≡ open_slot x → blocker x (lock_for S σ.store (Sets p v)) σ.slots ≡ None
-          → (u : ℕ) → Deployers run t p u → Member u (signalled x (lock_for S σ.store (Sets p v)) σ.slots)
+      from : (x : Transaction) → find t σ.slots ≡ open_slot x → blocker x (lock_for S σ.store (sets p v)) σ.slots ≡ None
+          → (u : ℕ) → Deployers run t p u → Member u (signalled x (lock_for S σ.store (sets p v)) σ.slots)
       from x e b u (d, o, y) =
           let z = open_in_slot S laws σ₀ adm run u o in
-          signalled_there x (lock_for S σ.store (Sets p v)) σ.slots u
+          signalled_there x (lock_for S σ.store (sets p v)) σ.slots u
           (z.0, z.1, restriction_signals run t p v u x z.0 e b l_is d z.1 (deployer_holds run u p z.0 z.1 y))
 
   pub nothing_else : {h : History} {σ : State} (run : Run S σ₀ h σ) (r : Request) (t : ℕ) → Strikes S σ r t
@@ -204,13 +204,13 @@ module _ (S : Setup) (laws : Laws S) (σ₀ : State) (adm : Admitted S σ₀) wh
   never_commits run t s = (struck_gone run t s).2
 
   abbrev Restrictor : List Slot → ℕ → ℕ → Type 0
-  Restrictor slots t p = (x : Transaction) × (find t slots ≡ open_slot x) × (x.holds (OnPolicy Restrict p) ≡ true)
+  Restrictor slots t p = (x : Transaction) × (find t slots ≡ open_slot x) × (x.holds (on_policy Restrict p) ≡ true)
 
   restrictor_stays : (σ : State) (r : Request) (t p : ℕ) → Fate S σ (asked r) (perform S σ (asked r)) t → (Ends (does S σ r) t → ⊥) → (Strikes S σ r t → ⊥)
       → Restrictor σ.slots t p → Restrictor (after S σ r).slots t p
   restrictor_stays σ r t p (stays e f g) a b (x, k, h) = (x, e ∙ k, h)
   restrictor_stays σ r t p (opened q o y e f) a b (x, k, h) = free_not_open f k
-  restrictor_stays σ r t p (advanced y z e f m g i) a b (x, k, h) = (z, f, m (OnPolicy Restrict p) (ap (λ (v : Transaction). v.holds (OnPolicy Restrict p)) (open_inj e k) ∙ h))
+  restrictor_stays σ r t p (advanced y z e f m g i) a b (x, k, h) = (z, f, m (on_policy Restrict p) (ap (λ (v : Transaction). v.holds (on_policy Restrict p)) (open_inj e k) ∙ h))
   restrictor_stays σ r t p (struck w) a b (x, k, h) =
       absurd (b (struck_strikes S σ r t x k (w.victim.number, w.striker.number, lock_number (lock_for S σ.store w.call), w.aborted)))
   restrictor_stays σ r t p (ended q e f) a b (x, k, h) = absurd (a q)
@@ -219,29 +219,29 @@ module _ (S : Setup) (laws : Laws S) (σ₀ : State) (adm : Admitted S σ₀) wh
   unfolding Restricting
   restricting_holds start t p s = absurd s
   restricting_holds (then {h = h} {σ = σ} run r) t p (inl (n, (v, k, a, q))) =
-      granted_call (λ w. Restrictor w.slots t p) S σ r t (Sets p v) n k a
-      (λ x e b g. let l : Lock = lock_for S σ.store (Sets p v) in (
-        advance x l (Sets p v),
-        called_same x l (Sets p v) σ.slots t e,
-        ap (advance x l (Sets p v)).holds (sym (set_lock_restrict S σ.store p v (sym (same_kind run p v) ∙ q))) ∙ advance_new x l (Sets p v),
+      granted_call (λ w. Restrictor w.slots t p) S σ r t (sets p v) n k a
+      (λ x e b g. let l : Lock = lock_for S σ.store (sets p v) in (
+        advance x l (sets p v),
+        called_same x l (sets p v) σ.slots t e,
+        ap (advance x l (sets p v)).holds (sym (set_lock_restrict S σ.store p v (sym (same_kind run p v) ∙ q))) ∙ advance_new x l (sets p v),
       ))
   restricting_holds (then {h = h} {σ = σ} run r) t p (inr (s, a, b)) =
       restrictor_stays σ r t p (fate S σ (next_free S laws σ₀ adm run) (asked r) t) a b (restricting_holds run t p s)
 
   pub no_deploy : {h : History} {σ : State} (run : Run S σ₀ h σ) (r : Request) (t p u n : ℕ) → Restricting run t p → u ≢ t
-      → asked r ≡ asks_call u (Deploys p) → answer S σ r ≡ Granted n → ⊥
+      → asked r ≡ asks_call u (deploys p) → answer S σ r ≡ Granted n → ⊥
   unfolding lock_for
   no_deploy {h = h} {σ = σ} run r t p u n s d k a =
       let w = restricting_holds run t p s in
-      granted_call (λ v. ⊥) S σ r u (Deploys p) n k a
+      granted_call (λ v. ⊥) S σ r u (deploys p) n k a
       (λ y e b g.
-      by_bool (y.holds (OnPolicy Deploy p))
-      (λ o. restrict_deploy p ((inv_of run).coexist t u w.0 y w.1 e (λ i. d (sym i)) (OnPolicy Restrict p) (OnPolicy Deploy p) w.2 o))
-      (λ o. by_bool (is_signal (verdict y (OnPolicy Deploy p) w.0))
-      (λ i. let f = (signal_means y w.0 (OnPolicy Deploy p) i).asked in never (cc))
-      (λ i. restrict_deploy p (inr (verdict_ok y w.0 (OnPolicy Deploy p) (OnPolicy Restrict p) o
+      by_bool (y.holds (on_policy Deploy p))
+      (λ o. restrict_deploy p ((inv_of run).coexist t u w.0 y w.1 e (λ i. d (sym i)) (on_policy Restrict p) (on_policy Deploy p) w.2 o))
+      (λ o. by_bool (is_signal (verdict y (on_policy Deploy p) w.0))
+      (λ i. let f = (signal_means y w.0 (on_policy Deploy p) i).asked in never (cc))
+      (λ i. restrict_deploy p (inr (verdict_ok y w.0 (on_policy Deploy p) (on_policy Restrict p) o
       (λ q. d (sym (find_number u σ.slots y e) ∙ (q ∙ find_number t σ.slots w.0 w.1)))
-      (neither (verdict y (OnPolicy Deploy p) w.0) (unblocked y (OnPolicy Deploy p) σ.slots b t w.0 w.1) i)
+      (neither (verdict y (on_policy Deploy p) w.0) (unblocked y (on_policy Deploy p) σ.slots b t w.0 w.1) i)
       w.2)))))
 
   pub open_replays : {h : History} {σ : State} (run : Run S σ₀ h σ) (t : ℕ) → OpenIn run t

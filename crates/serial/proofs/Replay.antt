@@ -7,7 +7,7 @@ use Rattle.protocol.specs.declared.policy.Object.TheVariants.{OfCell, OfPolicy}
 use Rattle.protocol.specs.declared.policy.Policy.{Policy}
 use Rattle.rights.specs.declared.order.Operation.{Operation}
 use Rattle.rights.specs.declared.order.Operation.TheVariants.{Read, Write}
-use Rattle.serial.specs.Words.{Setup, Store, Call, Deploys, Reads, Writes, Shows, Sets, set_operation, same_object, Member, change_kind}
+use Rattle.serial.specs.Words.{Setup, Store, Call, deploys, reads, writes, shows, sets, set_operation, same_object, Member, change_kind}
 use Rattle.serial.specs.Serial.{Entry, Session, begin, recall, any_of, has_object, has_subject, allows, grants_call, reply, note_call, execute_if, execute, executed, Agrees, Replays}
 use Rattle.serial.proofs.Basics.{same_object_refl}
 
@@ -16,11 +16,11 @@ Allowed S s e o op =
     (i : ℕ) × (pol : Policy) × Member i e.deployed × (slice_get S.policies i ≡ Some pol) × (pol.object ≡ o) × (S.permits (get_or s.rights i 0) op ≡ true)
 
 abbrev pub Grants : Setup → Store → Session → Call → ℕ → Type 0
-Grants S s e (Deploys p) a = (pol : Policy) × (slice_get S.policies p ≡ Some pol) × (e.subject ≡ Some pol.subject)
-Grants S s e (Reads c) a = Allowed S s e (OfCell c) Read × (a ≡ recall e.changes (OfCell c) (get_or s.cells c 0))
-Grants S s e (Writes c v) a = Allowed S s e (OfCell c) Write
-Grants S s e (Shows p) a = Allowed S s e (OfPolicy p) Read × (a ≡ recall e.changes (OfPolicy p) (get_or s.rights p 0))
-Grants S s e (Sets p v) a = Allowed S s e (OfPolicy p) (set_operation (change_kind S (get_or s.rights p 0) v))
+Grants S s e (deploys p) a = (pol : Policy) × (slice_get S.policies p ≡ Some pol) × (e.subject ≡ Some pol.subject)
+Grants S s e (reads c) a = Allowed S s e (OfCell c) Read × (a ≡ recall e.changes (OfCell c) (get_or s.cells c 0))
+Grants S s e (writes c v) a = Allowed S s e (OfCell c) Write
+Grants S s e (shows p) a = Allowed S s e (OfPolicy p) Read × (a ≡ recall e.changes (OfPolicy p) (get_or s.rights p 0))
+Grants S s e (sets p v) a = Allowed S s e (OfPolicy p) (set_operation (change_kind S (get_or s.rights p 0) v))
 
 -- the session where each call is granted
 unfoldable pub session : Option ℕ → List Entry → Session
@@ -45,12 +45,12 @@ allowed_allows S s e o op (i, pol, m, n, q, g) =
     (ap (λ z. has_object z o) n ∙ (ap (λ z. same_object z o) q ∙ same_object_refl o)) g)
 
 grants_true : (S : Setup) (s : Store) (e : Session) (c : Call) (a : ℕ) → Grants S s e c a → grants_call S s e c ≡ true
-grants_true S s e (Deploys p) a (pol, n, q) =
+grants_true S s e (deploys p) a (pol, n, q) =
     ap (λ z. has_subject z e.subject) n ∙ (ap (has_subject (Some pol)) q ∙ eq-eqb pol.subject pol.subject refl)
-grants_true S s e (Reads c) a g = allowed_allows S s e (OfCell c) Read g.0
-grants_true S s e (Writes c v) a g = allowed_allows S s e (OfCell c) Write g
-grants_true S s e (Shows p) a g = allowed_allows S s e (OfPolicy p) Read g.0
-grants_true S s e (Sets p v) a g = allowed_allows S s e (OfPolicy p) (set_operation (change_kind S (get_or s.rights p 0) v)) g
+grants_true S s e (reads c) a g = allowed_allows S s e (OfCell c) Read g.0
+grants_true S s e (writes c v) a g = allowed_allows S s e (OfCell c) Write g
+grants_true S s e (shows p) a g = allowed_allows S s e (OfPolicy p) Read g.0
+grants_true S s e (sets p v) a g = allowed_allows S s e (OfPolicy p) (set_operation (change_kind S (get_or s.rights p 0) v)) g
 
 executes : (S : Setup) (s : Store) (e : Session) (c : Call) (a : ℕ) → Grants S s e c a → execute S s e c ≡ (Some (reply s e c), note_call e c)
 unfolding execute
@@ -64,11 +64,11 @@ follows_executed S s u (k ∷ l) f =
     ∙ ap (λ w. w.1) (executes S s (session u l) k.call k.answer f.1)
 
 agrees : (S : Setup) (s : Store) (e : Session) (c : Call) (a : ℕ) → Grants S s e c a → Agrees c a (Some (reply s e c))
-agrees S s e (Deploys p) a g = (0, refl)
-agrees S s e (Reads c) a g = ap Some (sym g.1)
-agrees S s e (Writes c v) a g = (0, refl)
-agrees S s e (Shows p) a g = ap Some (sym g.1)
-agrees S s e (Sets p v) a g = (0, refl)
+agrees S s e (deploys p) a g = (0, refl)
+agrees S s e (reads c) a g = ap Some (sym g.1)
+agrees S s e (writes c v) a g = (0, refl)
+agrees S s e (shows p) a g = ap Some (sym g.1)
+agrees S s e (sets p v) a g = (0, refl)
 
 pub follows_replays : (S : Setup) (s : Store) (u : Option ℕ) (l : List Entry) → Follows S s u l → Replays S s u l
 unfolding Follows Replays

@@ -6,4 +6,3 @@ pub mod Model
 pub mod Serial
 pub mod History
 pub mod Day
-pub mod OneDay

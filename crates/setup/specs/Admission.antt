@@ -1,11 +1,10 @@
 -- What set-up refuses, in its order, and the state in which a day begins.
-use Rattle.std.specs.Prelude.{ℕ, Bool, true, cond, ◌&&◌, List, [], ◌∷◌, length, ◌==◌, nat_le, nat_lt}
+use Rattle.std.specs.Prelude.{ℕ, Bool, true, cond, ◌&&◌, List, [], ◌∷◌, length, replicate, ◌==◌, nat_le, nat_lt}
 use Rattle.protocol.specs.Refusals.{Outcome, answered, refused}
 use Rattle.protocol.specs.declared.policy.Object.{Object}
 use Rattle.protocol.specs.declared.policy.Object.TheVariants.{OfCell, OfPolicy}
 use Rattle.protocol.specs.declared.policy.Policy.{Policy}
-use Rattle.serial.specs.Model.{State}
-use Rattle.serial.specs.OneDay.{morning}
+use Rattle.serial.specs.Model.{State, free}
 
 unfoldable pub every : {A : Type 0} → (A → Bool) → List A → Bool
 every p [] = true
@@ -31,6 +30,6 @@ setup_check right cells rights policies =
     (cond (paired (length cells) (length rights) policies) (cond (every right rights) (answered tt) (refused 16)) (refused 15))
     (refused 14)
 
--- The morning of a day with these cells and stored rights
+-- Nothing has been opened yet.
 abbrev pub first_state : List ℕ → List ℕ → State
-first_state cells rights = morning (record { cells = cells; rights = rights })
+first_state cells rights = record { store = record { cells = cells; rights = rights }; slots = replicate 16 free; opened = 0; commits = 0 }

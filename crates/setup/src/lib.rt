@@ -1,4 +1,6 @@
 // What set-up refuses, in a call before an engine is made.
+#![tactic(auto)]
+
 ghost use Rattle.std.specs.Prelude.{◌≡◌, ◌<◌, length, OnOk, slice_index};
 ghost use Rattle.protocol.specs.Refusals.{outcome};
 ghost use Rattle.serial.specs.Words.{setup_of};

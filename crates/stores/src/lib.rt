@@ -1,4 +1,6 @@
 // Stores: numbers by position, behind one meaning.
+#![tactic(auto)]
+
 mod slice;
 mod store;
 mod table;

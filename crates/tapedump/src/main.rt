@@ -1,4 +1,6 @@
 // Prints the listing of the tape on standard input.
+#![tactic(auto)]
+
 use listing::list_tape;
 use std::io::Read;
 

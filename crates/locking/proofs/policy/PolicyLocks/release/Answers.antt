@@ -10,7 +10,7 @@ invariant-of-result c =
     let old = c.args.self in
     let before = policy_holds old.row in
     let after = policy_holds c.without.result in
-    let gone = has c.args.gone.mask in
+    let gone = has c.with.result.mask in
     let same = c.without.ensures.same in (
       c.without.ensures.places.0 old.relaxer,
       (

@@ -1,4 +1,0 @@
-pub mod Buffers
-pub mod Digits
-pub mod PutLine
-pub mod Written
