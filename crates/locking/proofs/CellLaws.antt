@@ -5,7 +5,7 @@ use Rattle.std.proofs.lemmas.Bool.Decides.{nat_tests}
 use Rattle.locking.specs.Modes.{cell_says, same_cell_mode, same_answer}
 use Rattle.locking.specs.Locks.{Beside, put}
 use Rattle.locking.specs.CellLocks.{cell_holds, cell_says_no, cell_blocks, cell_shared, CellGranted}
-use Rattle.locking.specs.declared.mode.LockAnswer.TheVariants.{Compatible, Conflict}
+use Rattle.locking.specs.declared.mode.LockAnswer.TheVariants.{Compatible}
 use Rattle.locking.specs.declared.mode.CellMode.{CellMode}
 use Rattle.locking.specs.declared.mode.CellMode.TheVariants.{ReadCell, WriteCell}
 use Rattle.locking.specs.declared.cell.CellRow.{CellRow}

@@ -26,7 +26,7 @@ impl PolicyRow {
     // The locks of the slots that stay.
     fn without(self, gone: SlotSet) -> PolicyRow
         ensures same { (m : PolicyMode) (k : ℕ) → policy_holds result m k ≡ (policy_holds self m k && not (has gone.mask k)) }
-        ensures places { ((self.relaxer ≤ 16 → result.relaxer ≤ 16)) × ((self.restricter ≤ 16 → result.restricter ≤ 16)) }
+        ensures places { (self.relaxer ≤ 16 → result.relaxer ≤ 16) × (self.restricter ≤ 16 → result.restricter ≤ 16) }
     {
         PolicyRow {
             readers: mask_without(self.readers, gone),
@@ -39,7 +39,7 @@ impl PolicyRow {
     // The lock is the slot's, beside others or, where there is one place, instead of another.
     fn with(self, mode: PolicyMode, slot: SlotIndex) -> PolicyRow
         ensures same { (m : PolicyMode) (k : ℕ) → policy_holds result m k ≡ put (same_policy_mode m mode) (shared m) (policy_holds self m) slot.at k }
-        ensures places { ((self.relaxer ≤ 16 → result.relaxer ≤ 16)) × ((self.restricter ≤ 16 → result.restricter ≤ 16)) }
+        ensures places { (self.relaxer ≤ 16 → result.relaxer ≤ 16) × (self.restricter ≤ 16 → result.restricter ≤ 16) }
     {
         let mut row = self;
         match mode {

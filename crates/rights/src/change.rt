@@ -12,7 +12,7 @@ pub enum ChangeKind {
 
 // Relaxes exactly if the join of old and new is new: then new permits whatever old does.
 pub fn change_of<O: RightsOrder>(order: &O, old: u32, new: u32) -> ChangeKind
-    ensures { result ≡ change_of (join_of (right order.now) (joined order.now)) old new }
+    ensures { result ≡ change_of (join_of (O.right order.now) (O.joined order.now)) old new }
 {
     if order.join(old, new) == new {
         ChangeKind::Relaxation

@@ -2,7 +2,7 @@
 ghost use Rattle.std.specs.Prelude.{◌≡◌, true, IfOk};
 ghost use Rattle.protocol.specs.Refusals.{outcome};
 ghost use Rattle.rights.specs.Orders.{ladder_right, ladder_joined, ladder_allows, ladder_check, threshold, is_threshold, are_thresholds, verdict};
-ghost use Rattle.std.proofs.Common.{rules, arith};
+ghost use Rattle.rights.specs.LadderLaws.{ladder_join_is_right, ladder_join_permits};
 
 use crate::order::{Operation, RightsOrder};
 use protocol::Refusal;
@@ -65,9 +65,9 @@ impl RightsOrder for LadderOrder {
 
     ghost allows = { λ o. ladder_allows o.read o.write o.restrict };
 
-    ghost join_is_right = { first_of (Prim.search rules, Prim.grind (arith, Self.row.coded.inj)) };
+    ghost join_is_right = { λ _. ladder_join_is_right };
 
-    ghost join_permits = { first_of (Prim.search rules, Prim.grind (arith, Self.row.coded.inj)) };
+    ghost join_permits = { λ o. ladder_join_permits o.read o.write o.restrict };
 
     fn is_right(&self, code: u32) -> bool {
         code <= 100

@@ -15,7 +15,7 @@ pub returns-in-Some : goal.returns-in-Some
 returns-in-Some c =
     let is : c.in-Some.slot.at ≡ c.args.holder = c.in-Some.ensures in
     let h : c.args.holder < 16 = omega (arith, c.in-Some.slot.below) in
-    Decides-like c.is-empty.result
+    Decides-like c.is_empty.result
     (to_beside c.args.holder c.in-Some.slot.at (has c.args.others.mask) (has c.without.result.mask) is c.without.ensures)
     (from_beside c.args.holder c.in-Some.slot.at (has c.args.others.mask) (has c.without.result.mask) is c.without.ensures h)
-    c.is-empty.ensures
+    c.is_empty.ensures

@@ -6,7 +6,7 @@ use Rattle.locking.proofs.cell.CellLocks.barring.Goals as goal
 pub returns : goal.returns
 unfolding cell_says_no
 returns c k =
-    let a = c.barring-in.ensures k in
-    let b = c.barring-in-2.ensures k in
+    let a = c.barring_in.ensures k in
+    let b = c.barring_in-2.ensures k in
     let u = c.union.ensures k in
     grind (arith, nat_tests)

@@ -1,29 +1,21 @@
 use Rattle.locking.specs.Slots.{has}
 use Rattle.locking.specs.PolicyLocks.{policy_holds}
-use Rattle.locking.specs.declared.mode.PolicyMode.{PolicyMode}
 use Rattle.locking.specs.declared.mode.PolicyMode.TheVariants.{ReadPolicy, Relax, Restrict, Deploy}
 use Rattle.locking.proofs.LockLaws.{beside_less}
 use Rattle.locking.proofs.policy.PolicyLocks.release.Goals as goal
 
-pub invariant-of-result : goal.invariant-of-result
-invariant-of-result c =
+pub invariant_of-result : goal.invariant_of-result
+invariant_of-result c =
     let old = c.args.self in
     let before = policy_holds old.row in
     let after = policy_holds c.without.result in
     let gone = has c.with.result.mask in
-    let same = c.without.ensures.same in (
-      c.without.ensures.places.0 old.relaxer,
-      (
-        c.without.ensures.places.1 old.restricter,
-        (
-          beside_less (before Relax) (before Restrict) gone (after Relax) (after Restrict) old.one (same Relax) (same Restrict),
-          (
-            beside_less (before Relax) (before ReadPolicy) gone (after Relax) (after ReadPolicy) old.quiet (same Relax) (same ReadPolicy),
-            (
-              beside_less (before Restrict) (before ReadPolicy) gone (after Restrict) (after ReadPolicy) old.silent (same Restrict) (same ReadPolicy),
-              (beside_less (before Restrict) (before Deploy) gone (after Restrict) (after Deploy) old.still (same Restrict) (same Deploy), tt),
-            ),
-          ),
-        ),
-      ),
-    )
+    let same = c.without.ensures.same in
+    record {
+      relaxer = c.without.ensures.places.0 old.relaxer;
+      restricter = c.without.ensures.places.1 old.restricter;
+      one = beside_less (before Relax) (before Restrict) gone (after Relax) (after Restrict) old.one (same Relax) (same Restrict);
+      quiet = beside_less (before Relax) (before ReadPolicy) gone (after Relax) (after ReadPolicy) old.quiet (same Relax) (same ReadPolicy);
+      silent = beside_less (before Restrict) (before ReadPolicy) gone (after Restrict) (after ReadPolicy) old.silent (same Restrict) (same ReadPolicy);
+      still = beside_less (before Restrict) (before Deploy) gone (after Restrict) (after Deploy) old.still (same Restrict) (same Deploy);
+    }
