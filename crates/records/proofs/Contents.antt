@@ -1,5 +1,5 @@
 -- What a content of a known length says, and that its bytes are those of what it says.
-use Rattle.std.proofs.Common.{◌≡◌, ℕ, ◌+◌, ◌*◌, ◌<◌, true, false, cond, eqb, List, [], ◌∷◌, ◌++◌, length, get_or, sym, refl, ap, ◌∙◌, ap₂}
+use Rattle.std.proofs.Common.{◌≡◌, ℕ, ◌<◌, true, false, cond, eqb, List, ◌++◌, length, get_or, sym, refl, ap, ◌∙◌, ap₂}
 use Rattle.std.proofs.lemmas.List.FromFn.{fill_by_all}
 use Rattle.std.proofs.lemmas.Bool.{cond-true, eq-eqb}
 use Rattle.protocol.specs.Bytes.{two_bytes, four_bytes, two_at, four_at}

@@ -1,5 +1,5 @@
 -- Reading a record gives back the request that it was made of.
-use Rattle.std.proofs.Common.{◌≡◌, ℕ, ◌+◌, ◌*◌, ◌<◌, ◌≤◌, List, [], ◌∷◌, ◌++◌, length, sym, refl, ap, ◌∙◌, subst, ap₂, arith, lit≤}
+use Rattle.std.proofs.Common.{◌≡◌, ℕ, ◌<◌, ◌≤◌, List, ◌++◌, length, sym, ap, ◌∙◌, subst, ap₂, arith, lit≤}
 use Rattle.records.specs.Buffers.{put_answer, put_front}
 use Rattle.protocol.specs.Bytes.{two_bytes, four_bytes, two_at, four_at, field_bytes}
 use Rattle.records.specs.Records.{record_bytes, Fits, request_of, with_rest, record_in, record_of}

@@ -1,5 +1,5 @@
 -- The records of a tape, one by one.
-use Rattle.std.proofs.Common.{◌≡◌, ℕ, zero, suc, ◌+◌, ◌-◌, ◌<◌, ◌≤◌, ◌⊎◌, List, [], ◌∷◌, ◌++◌, length, take, Some, None, Option, sym, refl, ap, ◌∙◌, ap₂, ⊎_elim, arith, lit≤}
+use Rattle.std.proofs.Common.{◌≡◌, ℕ, zero, suc, ◌+◌, ◌-◌, ◌<◌, ◌≤◌, List, [], ◌∷◌, ◌++◌, length, take, Some, None, Option, sym, refl, ap, ◌∙◌, ap₂, ⊎_elim, arith, lit≤}
 use Rattle.std.proofs.lemmas.List.{append_assoc, append-nil, length-append, flat_map_more, length-take, nil_from_length, take_at}
 use Rattle.std.specs.List.{AllByRecursion as All}
 use Rattle.std.proofs.lemmas.Bool.{cond-true, cond-false, le-leb, lt-leb, cases_lt}
@@ -7,7 +7,7 @@ use Rattle.records.specs.declared.fault.FaultValues.{FaultValues}
 use Rattle.protocol.specs.declared.request.Request.{Request}
 use Rattle.protocol.specs.declared.request.Request.TheVariants.{Open, Deploy, Read, Write, Show, Set, Commit, GiveUp}
 use Rattle.records.specs.Records.{record_bytes, Fits, record_of}
-use Rattle.protocol.specs.Refusals.{Outcome, answered, refused}
+use Rattle.protocol.specs.Refusals.{answered, refused}
 use Rattle.records.specs.Tapes.{TapeReading, stopped, behind, go_on, records_from, tape_of, tape_bytes, up_to, ReadsTape}
 use Rattle.records.proofs.Records.{record_back}
 

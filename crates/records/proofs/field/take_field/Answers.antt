@@ -1,4 +1,4 @@
-use Rattle.std.proofs.Common.{◌≡◌, ◌<◌, ◌≤◌, length, get_or, rules}
+use Rattle.std.proofs.Common.{◌<◌, ◌≤◌, length, get_or, rules}
 use Rattle.std.proofs.lemmas.List.{take_rest}
 use Rattle.records.proofs.Fields.{field_read, field_whole}
 use Rattle.records.proofs.field.take_field.Goals as goal
@@ -6,7 +6,7 @@ use Rattle.records.proofs.field.take_field.Goals as goal
 pub returns : goal.returns
 returns c =
     let bs = c.args.bytes.now in
-    let h = simp (take_rest, c.from-be-bytes-len.ensures) at c.in-Some.ensures.cases in
+    let h = simp (take_rest, c.from_be_bytes-len.ensures) at c.in-Some.ensures.cases in
     let three : 3 ≤ length bs = search rules in
     let high : get_or bs 1 0 < 256 = search rules in
     let low : get_or bs 2 0 < 256 = search rules in

@@ -8,5 +8,5 @@ returns c =
     let xs = c.args.content.now in
     let fit : Bytes xs = λ k. search rules in
     let long : length xs ≡ 2 = search rules in
-    let n = c.from-be-bytes.ensures in
+    let n = c.from_be_bytes.ensures in
     record { says = says 2 xs _ _ long n; whole = whole_two xs fit long ∙ ap two_bytes (sym n) }

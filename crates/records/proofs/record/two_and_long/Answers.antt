@@ -8,9 +8,9 @@ returns c =
     let xs = c.args.content.now in
     let fit : Bytes xs = λ k. search rules in
     let long : length xs ≡ 8 = search rules in
-    let m = c.from-be-bytes.ensures in
-    let n = c.from-be-bytes-2.ensures in
-    let v = c.from-be-bytes-3.ensures in
+    let m = c.from_be_bytes.ensures in
+    let n = c.from_be_bytes-2.ensures in
+    let v = c.from_be_bytes-3.ensures in
     record {
       says = says 8 xs _ _ long (cc);
       whole = whole_eight xs fit long ∙ ap₂ (λ us vs. us ++ vs) (ap₂ (λ a b. two_bytes a ++ two_bytes b) (sym m) (sym n)) (ap four_bytes (sym v));

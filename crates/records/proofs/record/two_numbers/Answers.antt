@@ -8,6 +8,6 @@ returns c =
     let xs = c.args.content.now in
     let fit : Bytes xs = λ k. search rules in
     let long : length xs ≡ 4 = search rules in
-    let m = c.from-be-bytes.ensures in
-    let n = c.from-be-bytes-2.ensures in
+    let m = c.from_be_bytes.ensures in
+    let n = c.from_be_bytes-2.ensures in
     record { says = says 4 xs _ _ long (ap₂ (λ a b. (a, b)) m n); whole = whole_four xs fit long ∙ ap₂ (λ a b. two_bytes a ++ two_bytes b) (sym m) (sym n) }

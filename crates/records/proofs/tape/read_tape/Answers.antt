@@ -1,4 +1,4 @@
-use Rattle.std.proofs.Common.{◌≡◌, ◌+◌, ◌-◌, ◌<◌, ◌≤◌, [], ◌∷◌, length, take, Some, vec_items, vec_len, sym, refl, ap, ◌∙◌, ap₂, arith, rules}
+use Rattle.std.proofs.Common.{◌≡◌, ◌+◌, ◌-◌, ◌<◌, ◌≤◌, [], ◌∷◌, length, take, Some, vec_items, vec_len, sym, refl, ap, ◌∙◌, ap₂, rules}
 use Rattle.std.proofs.lemmas.Slice.{pushed}
 use Rattle.records.specs.Faults.{fault_values}
 use Rattle.records.specs.Tapes.{tape_bytes}
@@ -13,10 +13,10 @@ pub loop-left-preserved : goal.loop-left-preserved
 loop-left-preserved c =
     let v = c.loop-left.requests in
     let q = c.in-Ok.request in
-    let more = pushed (q ∷ []) refl c.in-ok-push.was c.push.ensures.items in
+    let more = pushed (q ∷ []) refl c.in_ok-push-in-Ok.was c.push.ensures.items in
     let long : vec_len c.push.new.self ≡ vec_len v + 1 = search rules in
     let e = c.in-Ok.ensures in
-    read_on c.args.bytes.now c.loop-left.left.now (vec_items v) (vec_len v) c.loop-left.invariant _ _ c.in-Ok.rest.now q more long e.reads e.one-record
+    read_on c.args.bytes.now c.loop-left.left.now (vec_items v) (vec_len v) c.loop-left.invariant _ _ c.in-Ok.rest.now q more long e.reads e.one_record
 
 pub returns-then-bytes-gt60000 : goal.returns-then-bytes-gt60000
 returns-then-bytes-gt60000 c =
