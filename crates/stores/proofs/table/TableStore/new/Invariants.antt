@@ -2,4 +2,4 @@ use Rattle.std.proofs.Common.{◌≡◌, length, take}
 use Rattle.stores.proofs.table.TableStore.new.Given as goal
 
 abbrev pub invariant-loop-i : goal.invariant-loop-i
-invariant-loop-i l = (length l.own_val ≡ 64) × (take l.i l.own_val ≡ take l.i l.numbers)
+invariant-loop-i l = (length l.own ≡ 64) × (take l.i l.own ≡ take l.i l.numbers)
