@@ -6,10 +6,10 @@ use Rattle.log_store.proofs.writes.write_number.Goals as goal
 pub returns : goal.returns
 returns c =
     let n = c.args.count in
-    let u = c.make-room-end.new.bytes in
+    let u = c.make_room-end.new.bytes in
     let at = c.args.position in
     let v = c.args.value in
-    let r = c.make-room-end.ensures in
+    let r = c.make_room-end.ensures in
     let bytes = c.append.ensures ∙ ap (λ p. appended u p at v) r.end in
     record {
       bytes = bytes ∙ ap (λ b. appended b (log_end n b) at v) r.bytes;

@@ -4,16 +4,16 @@ use Rattle.log_store.specs.Held.{size_on}
 use Rattle.log_store.specs.Log.{holds_log, log_list}
 use Rattle.log_store.proofs.Sizes.{list_made}
 use Rattle.log_store.proofs.store.LogStore.new.Goals as goal
-use Rattle.log_store.proofs.store.LogStore.new.Goals.{then-holds-log, else-holds-log}
+use Rattle.log_store.proofs.store.LogStore.new.Goals.{then-holds_log, else-holds_log}
 
 pub returns : goal.returns
 returns c =
     let t = c.args.bytes.now in
     let n = c.args.count in
-    let count : c.if-holds-log.count ≡ cond (holds_log n t) n 0 =
-    elim c.if-holds-log.branch [
-      | then-holds-log w ↦ w.count-is ∙ sym (cond-true _ _ _ (sym c.holds-log.ensures ∙ w.if-holds-log.true))
-      | else-holds-log w ↦ w.count-is ∙ sym (cond-false _ _ _ (sym c.holds-log.ensures ∙ w.if-holds-log.false))
+    let count : c.if-holds_log.count ≡ cond (holds_log n t) n 0 =
+    elim c.if-holds_log.branch [
+      | then-holds_log w ↦ w.count-is ∙ sym (cond-true _ _ _ (sym c.holds_log.ensures ∙ w.if-holds_log.true))
+      | else-holds_log w ↦ w.count-is ∙ sym (cond-false _ _ _ (sym c.holds_log.ensures ∙ w.if-holds_log.false))
     ] in
     record {
       list = ap (λ m. log_list (size_on m t) t) count ∙ list_made n t;

@@ -6,8 +6,8 @@ use Rattle.log_store.proofs.LogLaws.{length_log}
 use Rattle.log_store.proofs.Sizes.{size_room}
 use Rattle.log_store.proofs.store.LogStoreStore.read.Goals as goal
 
-pub used-places-requires : goal.used-places-requires
-used-places-requires c =
+pub used_places-requires : goal.used_places-requires
+used_places-requires c =
     let s = c.args.self.now in
     let size = length_log (size_of s) s.bytes.now in
     let room = size_room s.count s.bytes.now c.args.at (omega arith) in
@@ -19,4 +19,4 @@ returns c =
     let t = s.bytes.now in
     let at = c.args.at in
     let size = c.size-count.ensures ∙ length_log (size_of s) t in
-    read_in (list_of s) at _ (omega arith) (c.number-at.ensures ∙ ap (λ k. get_or (listed c.size-count.result t k) at 0) c.used-places.ensures.used ∙ ap (λ n. get_or (log_list n t) at 0) size)
+    read_in (list_of s) at _ (omega arith) (c.number_at.ensures ∙ ap (λ k. get_or (listed c.size-count.result t k) at 0) c.used_places.ensures.used ∙ ap (λ n. get_or (log_list n t) at 0) size)

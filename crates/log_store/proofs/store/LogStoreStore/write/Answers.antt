@@ -23,15 +23,15 @@ returns-then-at-count c =
       sound = λ h. h;
     }
 
-pub overflow-cast-at : goal.overflow-cast-at
-overflow-cast-at c =
+pub overflow_cast-at : goal.overflow_cast-at
+overflow_cast-at c =
     let s = c.args.self.now in
     let size = length_log (size_of s) s.bytes.now in
     let room = size_room s.count s.bytes.now c.args.at (omega arith) in
     omega arith
 
-pub write-number-requires : goal.write-number-requires
-write-number-requires c =
+pub write_number-requires : goal.write_number-requires
+write_number-requires c =
     let s = c.args.self.now in
     let size = length_log (size_of s) s.bytes.now in
     let room = size_room s.count s.bytes.now c.args.at (omega arith) in
@@ -41,17 +41,17 @@ pub returns : goal.returns
 returns c =
     let s = c.args.self.now in
     let t = s.bytes.now in
-    let u = c.write-number.new.bytes in
+    let u = c.write_number.new.bytes in
     let at = c.args.at in
     let v = c.args.value in
     let size = c.size-count.ensures ∙ length_log (size_of s) t in
-    let same = size_same s.count t u c.write-number.auto.bytes in
+    let same = size_same s.count t u c.write_number.auto.bytes in
     record {
       answer = write_in (list_of s) at (omega arith);
-      after = ap (λ n. log_list n u) (same ∙ sym size) ∙ c.write-number.ensures.list ∙ ap (λ n. set (log_list n t) at v) size;
+      after = ap (λ n. log_list n u) (same ∙ sym size) ∙ c.write_number.ensures.list ∙ ap (λ n. set (log_list n t) at v) size;
       kept = refl;
-      bytes = c.write-number.ensures.bytes ∙ ap (λ n. written n t at v) size ∙ sym (cond-true _ _ _ (lt-ltb at (size_of s) (omega arith)));
+      bytes = c.write_number.ensures.bytes ∙ ap (λ n. written n t at v) size ∙ sym (cond-true _ _ _ (lt-ltb at (size_of s) (omega arith)));
       sound = λ h.
           let whole = size ∙ size_whole s.count t h in
-          ap (holds_log s.count) (c.write-number.ensures.bytes ∙ ap (λ n. written n t at v) whole) ∙ sound_written s.count t at v (omega arith) h;
+          ap (holds_log s.count) (c.write_number.ensures.bytes ∙ ap (λ n. written n t at v) whole) ∙ sound_written s.count t at v (omega arith) h;
     }
