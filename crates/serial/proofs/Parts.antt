@@ -10,7 +10,7 @@ use Rattle.serial.specs.Locks.{Lock, on_policy, lock_number}
 use Rattle.serial.specs.Requests.{Asked, asks_open, asks_call, asks_commit, asks_give_up, asked}
 use Rattle.serial.specs.Model.{State, Slot, open_slot, Transaction, find, verdict, is_signal, is_conflict, lock_for, call_answer, perform, answer, after, advance, signalled, blocker, set_mode}
 use Rattle.serial.specs.Serial.{Entry, note_call, Session, Replays, serial_store}
-use Rattle.serial.specs.History.{History, calls, effect_of, Ends, Opens, HasDeployed, transcript, committed, committed_with, Run, start, then, Admitted}
+use Rattle.serial.specs.History.{History, effect_of, Ends, Opens, HasDeployed, transcript, committed, committed_with, Run, start, then, Admitted}
 use Rattle.serial.specs.Day.{Strikes, does, OpenIn, StruckIn, Restricts, Restricting, Deployers, NoDuplicate}
 use Rattle.serial.proofs.Basics.{never, by_kind, by_bool, open_inj, free_not_open, aborted_not_open, aborted_not_free}
 use Rattle.serial.proofs.Slots.{find_number}

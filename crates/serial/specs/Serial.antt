@@ -1,6 +1,6 @@
 -- The serial executor: it runs one transaction after the other on two plain lists. It has no locks, no slots and no workspace of one
 -- change for each object: a transaction's changes are noted as they come, the newest first.
-use Rattle.std.specs.Prelude.{◌≡◌, ℕ, Bool, true, false, cond, ◌&&◌, ◌||◌, List, [], ◌∷◌, set, Some, None, Option, ◌==◌, slice_index, slice_set}
+use Rattle.std.specs.Prelude.{◌≡◌, ℕ, Bool, true, false, cond, ◌&&◌, ◌||◌, List, [], ◌∷◌, Some, None, Option, ◌==◌, slice_index, slice_set}
 use Rattle.std.specs.List.{slice_get}
 use Rattle.protocol.specs.declared.policy.Object.{Object}
 use Rattle.protocol.specs.declared.policy.Object.TheVariants.{OfCell, OfPolicy}
