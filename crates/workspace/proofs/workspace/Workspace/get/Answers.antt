@@ -5,5 +5,5 @@ use Rattle.workspace.proofs.workspace.Workspace.get.Goals as goal
 
 pub returns : goal.returns
 returns c =
-    c.copied.ensures ∙ item_nth c.as-slice.result.now c.args.index c.get.result c.get.ensures.finds
-    ∙ ap (λ ks. slice_get ks c.args.index) c.as-slice.ensures
+    c.copied.ensures ∙ item_nth c.as_slice.result.now c.args.index c.get.result c.get.ensures.lookup
+    ∙ ap (λ ks. slice_get ks c.args.index) c.as_slice.ensures
