@@ -1,12 +1,12 @@
 -- From what set-up has checked to what the day's theorem asks.
-use Rattle.std.proofs.Common.{◌≡◌, ℕ, ◌<◌, ◌≤◌, Bool, true, false, cond, ◌&&◌, eqb, ltb, leb, List, length, get_or, sym, refl, ◌∙◌, arith}
+use Rattle.std.proofs.Common.{◌≡◌, ℕ, Bool, true, false, List, length, sym, refl, ◌∙◌}
 use Rattle.std.proofs.lemmas.Bool.{cond-true, cond-false, and_parts, leb-true, ltb-true, eqb-true}
 use Rattle.protocol.specs.Refusals.{answered, refused}
 use Rattle.protocol.specs.declared.policy.Object.{Object}
 use Rattle.protocol.specs.declared.policy.Object.TheVariants.{OfCell, OfPolicy}
 use Rattle.protocol.specs.declared.policy.Policy.{Policy}
 use Rattle.rights.specs.declared.order.Operation.{Operation}
-use Rattle.serial.specs.Words.{Store, Setup, setup_of}
+use Rattle.serial.specs.Words.{setup_of}
 use Rattle.serial.specs.History.{Present, Admitted}
 use Rattle.setup.specs.Admission.{every, small, present, paired, setup_check, first_state}
 use Rattle.setup.proofs.Every.{every_at, every_nth}

@@ -9,7 +9,7 @@ returns g c =
     let cs = g.C.Store.list c.args.cells.now in
     let rs = g.R.Store.list c.args.rights.now in
     let ps = c.args.policies.now in
-    let few : small (length cs) (length ps) ≡ true = ap (λ n. small n (length ps)) (sym c.size-size.ensures) ∙ sym c.is-small.ensures ∙ c.if-not-is-small.false in
-    let pairs : paired (length cs) (length rs) ps ≡ true = ap₂ (λ m n. paired m n ps) (sym c.size-size.ensures) (sym c.size.ensures) ∙ sym c.is-paired.ensures ∙ c.if-not-is-paired.false in
-    let all = sym c.all_rights.ensures ∙ c.if-not-all-rights.false in
+    let few : small (length cs) (length ps) ≡ true = ap (λ n. small n (length ps)) (sym c.size-size.ensures) ∙ sym c.is_small.ensures ∙ c.if-not-is_small.false in
+    let pairs : paired (length cs) (length rs) ps ≡ true = ap₂ (λ m n. paired m n ps) (sym c.size-size.ensures) (sym c.size.ensures) ∙ sym c.is_paired.ensures ∙ c.if-not-is_paired.false in
+    let all = sym c.all_rights.ensures ∙ c.if-not-all_rights.false in
     record { answer = good right cs rs ps few pairs all; admits = admits right cs rs ps _ _ few pairs all }
