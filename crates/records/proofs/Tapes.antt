@@ -1,7 +1,7 @@
 -- The records of a tape, one by one.
 use Rattle.std.proofs.Common.{◌≡◌, ℕ, zero, suc, ◌+◌, ◌-◌, ◌<◌, ◌≤◌, List, [], ◌∷◌, ◌++◌, length, take, Some, None, Option, sym, refl, ap, ◌∙◌, ap₂, ⊎_elim, arith, lit≤}
 use Rattle.std.proofs.lemmas.List.{append_assoc, append-nil, length-append, flat_map_more, length-take, nil_from_length, take_at}
-use Rattle.std.specs.List.{AllByRecursion as All}
+use Rattle.std.specs.List.{AllByRecursion}
 use Rattle.std.proofs.lemmas.Bool.{cond-true, cond-false, le-leb, lt-leb, cases_lt}
 use Rattle.records.specs.declared.fault.FaultValues.{FaultValues}
 use Rattle.protocol.specs.declared.request.Request.{Request}
@@ -85,7 +85,7 @@ module _ (bytes left : List ℕ) (requests : List Request) (n : ℕ) (so_far : R
       )
 
 -- the records of requests give the requests back
-records_back : (requests : List Request) → All Fits requests → (most total number : ℕ) → length (tape_bytes requests) ≤ most → records_from most total number (tape_bytes requests) ≡ record { requests = requests; fault = None }
+records_back : (requests : List Request) → AllByRecursion Fits requests → (most total number : ℕ) → length (tape_bytes requests) ≤ most → records_from most total number (tape_bytes requests) ≡ record { requests = requests; fault = None }
 records_back [] fits most total number h = from_ends most total number [] refl
 records_back (q ∷ qs) fits zero total number h = let s = length-append (record_bytes q) (tape_bytes qs) in let three = record_size q in absurd (omega arith)
 records_back (q ∷ qs) (fit, fits) (suc most) total number h =
@@ -94,7 +94,7 @@ records_back (q ∷ qs) (fit, fits) (suc most) total number h =
     let more = records_back qs fits most total (number + 1) (omega arith) in
     from_goes most total number (record_bytes q ++ tape_bytes qs) (tape_bytes qs) q (omega arith) (record_back q fit (tape_bytes qs)) ∙ ap (behind q) more
 
-tape_back : (requests : List Request) (bytes : List ℕ) → All Fits requests → length bytes ≤ 60000 → tape_bytes requests ≡ bytes → tape_of bytes ≡ record { requests = requests; fault = None }
+tape_back : (requests : List Request) (bytes : List ℕ) → AllByRecursion Fits requests → length bytes ≤ 60000 → tape_bytes requests ≡ bytes → tape_of bytes ≡ record { requests = requests; fault = None }
 tape_back requests bytes fits h e =
     cond-true _ _ _ (le-leb (length bytes) 60000 h)
     ∙ ap (λ bs. records_from (length bytes) (length bytes) 1 bs) (sym e)

@@ -1,6 +1,6 @@
 -- A tape is records one after another.
 use Rattle.std.specs.Prelude.{◌≡◌, ℕ, zero, suc, ◌+◌, ◌-◌, ◌≤◌, cond, List, [], ◌∷◌, length, take, Some, None, Option, nat_le}
-use Rattle.std.specs.List.{flat_map, AllByRecursion as All}
+use Rattle.std.specs.List.{flat_map, AllByRecursion}
 use Rattle.records.specs.declared.fault.FaultValues.{FaultValues}
 use Rattle.protocol.specs.declared.request.Request.{Request}
 use Rattle.records.specs.Records.{record_bytes, Fits, record_of}
@@ -49,4 +49,4 @@ pub record ReadsTape (bytes : List ℕ) (tape : TapeReading) : Type 0 where
   -- up to the fault, the bytes are exactly those that writing the requests makes
   pub one_record_each : tape_bytes tape.requests ≡ up_to tape.fault bytes
   -- the tape that writing some requests made gives them back
-  pub reads_back : (requests : List Request) → All Fits requests → length bytes ≤ 60000 → tape_bytes requests ≡ bytes → tape ≡ record { requests = requests; fault = None }
+  pub reads_back : (requests : List Request) → AllByRecursion Fits requests → length bytes ≤ 60000 → tape_bytes requests ≡ bytes → tape ≡ record { requests = requests; fault = None }
