@@ -4,6 +4,8 @@ use Rattle.locking.specs.declared.mode.CellMode.{CellMode}
 use Rattle.locking.specs.declared.mode.CellMode.TheVariants.{ReadCell, WriteCell}
 use Rattle.locking.specs.declared.mode.PolicyMode.{PolicyMode}
 use Rattle.locking.specs.declared.mode.PolicyMode.TheVariants.{ReadPolicy, Relax, Restrict, Deploy}
+use Rattle.locking.specs.declared.mode.Lock.{Lock}
+use Rattle.locking.specs.declared.mode.Lock.TheVariants.{OnCell, OnPolicy}
 use Rattle.locking.specs.declared.mode.LockAnswer.{LockAnswer}
 use Rattle.locking.specs.declared.mode.LockAnswer.TheVariants.{Compatible, Conflict, Signal}
 
@@ -49,3 +51,7 @@ policy_number Deploy = 3
 
 abbrev pub same_policy_mode : PolicyMode → PolicyMode → Bool
 same_policy_mode m n = policy_number m == policy_number n
+
+abbrev pub lock_number : Lock → ℕ
+lock_number (OnCell m i) = i
+lock_number (OnPolicy m i) = i

@@ -1,5 +1,5 @@
 // Who holds which lock on a cell.
-ghost use Rattle.std.specs.Prelude.{◌≡◌, ℕ, ◌≤◌, false, MatchOption};
+ghost use Rattle.std.specs.Prelude.{◌≡◌, ℕ, ◌≤◌, false, not, ◌&&◌, MatchOption};
 ghost use Rattle.locking.specs.Slots.{has, without_bit};
 ghost use Rattle.locking.specs.Modes.{cell_says, same_cell_mode};
 ghost use Rattle.locking.specs.Locks.{Beside, put, says_so, Waits};
@@ -102,7 +102,13 @@ impl CellLocks {
     pub fn release(self, slot: SlotIndex) -> CellLocks
         ensures { (m : CellMode) (k : ℕ) → cell_holds result.row m k ≡ without_bit (cell_holds self.row m) slot.at k }
     {
-        let gone = SlotSet::empty().with(slot);
+        self.release_all(SlotSet::only(slot))
+    }
+
+    // The slots of the set lose their locks.
+    pub fn release_all(self, gone: SlotSet) -> CellLocks
+        ensures { (m : CellMode) (k : ℕ) → cell_holds result.row m k ≡ (cell_holds self.row m k && not (has gone.mask k)) }
+    {
         CellLocks {
             row: CellRow {
                 readers: mask_without(self.row.readers, gone),

@@ -11,7 +11,7 @@ mod slot_set;
 
 pub use cell::{CellDecision, CellLocks, CellRow};
 pub use examples::examples_stand;
-pub use mode::{CellMode, LockAnswer, PolicyMode, cell_answer, policy_answer};
+pub use mode::{CellMode, Lock, LockAnswer, PolicyMode, cell_answer, policy_answer};
 pub use policy::{PolicyDecision, PolicyLocks, PolicyRow};
 pub use slot::SlotIndex;
 pub use slot_set::SlotSet;

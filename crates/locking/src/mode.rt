@@ -1,6 +1,6 @@
 // Lock modes, and what a lock that another transaction holds says to a lock that is asked for.
 ghost use Rattle.std.specs.Prelude.{◌≡◌};
-ghost use Rattle.locking.specs.Modes.{cell_says, policy_says};
+ghost use Rattle.locking.specs.Modes.{cell_says, policy_says, lock_number};
 
 use LockAnswer::{Compatible, Conflict, Signal};
 
@@ -16,6 +16,24 @@ pub enum PolicyMode {
     Relax,
     Restrict,
     Deploy,
+}
+
+// A lock, by its mode and the number of the cell or the policy.
+#[derive(Clone, Copy)]
+pub enum Lock {
+    OnCell(CellMode, u16),
+    OnPolicy(PolicyMode, u16),
+}
+
+impl Lock {
+    // The number of the cell or the policy.
+    pub fn number(self) -> u16
+        ensures { result ≡ lock_number self }
+    {
+        match self {
+            Lock::OnCell(_, number) | Lock::OnPolicy(_, number) => number,
+        }
+    }
 }
 
 #[derive(Clone, Copy, PartialEq, Eq)]

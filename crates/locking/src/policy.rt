@@ -138,8 +138,15 @@ impl PolicyLocks {
     pub fn release(self, slot: SlotIndex) -> PolicyLocks
         ensures { (m : PolicyMode) (k : ℕ) → policy_holds result.row m k ≡ without_bit (policy_holds self.row m) slot.at k }
     {
+        self.release_all(SlotSet::only(slot))
+    }
+
+    // The slots of the set lose their locks.
+    pub fn release_all(self, gone: SlotSet) -> PolicyLocks
+        ensures { (m : PolicyMode) (k : ℕ) → policy_holds result.row m k ≡ (policy_holds self.row m k && not (has gone.mask k)) }
+    {
         PolicyLocks {
-            row: self.row.without(SlotSet::empty().with(slot)),
+            row: self.row.without(gone),
         }
     }
 

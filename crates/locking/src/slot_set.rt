@@ -1,5 +1,5 @@
 // Sets of slots, each a mask with a bit for every slot.
-ghost use Rattle.std.specs.Prelude.{◌≡◌, ℕ, false, not, ◌&&◌, ◌||◌, Decides};
+ghost use Rattle.std.specs.Prelude.{◌≡◌, ℕ, false, not, ◌&&◌, ◌||◌, ◌==◌, Decides};
 ghost use Rattle.locking.specs.Slots.{has, with_bit, without_bit, count_below};
 
 use crate::slot::SlotIndex;
@@ -10,10 +10,16 @@ pub struct SlotSet {
 }
 
 impl SlotSet {
-    pub(crate) fn empty() -> SlotSet
+    pub fn empty() -> SlotSet
         ensures { (k : ℕ) → has result.mask k ≡ false }
     {
         SlotSet { mask: 0 }
+    }
+
+    pub fn only(slot: SlotIndex) -> SlotSet
+        ensures { (k : ℕ) → has result.mask k ≡ (k == slot.at) }
+    {
+        SlotSet::empty().with(slot)
     }
 
     pub(crate) fn from_mask(mask: u16) -> SlotSet

@@ -2,12 +2,14 @@
 #![tactic(auto)]
 
 mod answer;
+mod call;
 mod policy;
 mod refusal;
 mod request;
 mod words;
 
 pub use answer::Answer;
+pub use call::Call;
 pub use policy::{Change, Object, Policy};
 pub use refusal::Refusal;
 pub use request::{Request, TransactionId};

@@ -15,3 +15,4 @@ pub mod Counts
 pub mod Struck
 pub mod Parts
 pub mod Main
+pub mod OneDay

@@ -6,3 +6,4 @@ pub mod Model
 pub mod Serial
 pub mod History
 pub mod Day
+pub mod OneDay

@@ -3,7 +3,13 @@
 #![tactic(auto)]
 
 ghost use Rattle.serial.specs.Day.{DayIsSerial};
+ghost use Rattle.serial.specs.OneDay.{EveryDayIsDone};
 
 pub fn day_is_serial()
     ensures { DayIsSerial }
+{}
+
+// The same of one worked day, by the lists before, the requests, their answers and the lists after.
+pub fn worked_day_is_serial()
+    ensures { EveryDayIsDone }
 {}

@@ -2,14 +2,14 @@ use Rattle.locking.specs.Slots.{has}
 use Rattle.locking.specs.PolicyLocks.{policy_holds}
 use Rattle.locking.specs.declared.mode.PolicyMode.TheVariants.{ReadPolicy, Relax, Restrict, Deploy}
 use Rattle.locking.proofs.LockLaws.{beside_less}
-use Rattle.locking.proofs.policy.PolicyLocks.release.Goals as goal
+use Rattle.locking.proofs.policy.PolicyLocks.release_all.Goals as goal
 
 pub invariant_of-result : goal.invariant_of-result
 invariant_of-result c =
     let old = c.args.self in
     let before = policy_holds old.row in
     let after = policy_holds c.without.result in
-    let gone = has c.with.result.mask in
+    let gone = has c.args.gone.mask in
     let same = c.without.ensures.same in
     record {
       relaxer = c.without.ensures.places.0 old.relaxer;

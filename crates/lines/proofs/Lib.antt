@@ -1,0 +1,4 @@
+pub mod Buffers
+pub mod Digits
+pub mod PutLine
+pub mod Written

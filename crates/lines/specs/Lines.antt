@@ -1,0 +1,43 @@
+-- Lines of text: of an answer, of answers one after another, and of a tape's fault.
+use Rattle.std.specs.Prelude.{ℕ, ◌-◌, cond, List, [], ◌∷◌, ◌++◌, length, drop, Some, None, codes, decimal, Option, nat_le}
+use Rattle.protocol.specs.Refusals.{refusal_number}
+use Rattle.protocol.specs.declared.answer.Answer.{Answer}
+use Rattle.protocol.specs.declared.answer.Answer.TheVariants.{Granted, Refused, Wait, Aborted}
+use Rattle.records.specs.declared.fault.FaultValues.{FaultValues}
+
+-- Each number in decimal after a space, and then a line feed.
+abbrev pub numbers_part : List ℕ → List ℕ
+numbers_part [] = codes "\n"
+numbers_part (number ∷ more) = codes " " ++ (decimal number ++ numbers_part more)
+
+abbrev pub line : List ℕ → List ℕ → List ℕ
+line letter numbers = letter ++ numbers_part numbers
+
+abbrev pub answer_line : Answer → List ℕ
+answer_line (Granted number) = line (codes "G") (number ∷ [])
+answer_line (Refused refusal) = line (codes "R") (refusal_number refusal ∷ [])
+answer_line (Wait transaction) = line (codes "W") (transaction ∷ [])
+answer_line (Aborted by policy) = line (codes "S") (by ∷ policy ∷ [])
+
+-- A fault's line: F, its number, the record's number and its first byte.
+abbrev pub values_line : FaultValues → List ℕ
+values_line f = line (codes "F") (f.fault ∷ f.number ∷ f.start ∷ [])
+
+-- No line where there is no fault
+abbrev pub fault_line : Option FaultValues → List ℕ
+fault_line None = []
+fault_line (Some f) = values_line f
+
+-- The lines of answers, one after another.
+unfoldable pub answer_lines : List Answer → List ℕ
+answer_lines [] = []
+answer_lines (answer ∷ more) = answer_line answer ++ answer_lines more
+
+-- The lines that fit so many bytes: those before the first that does not.
+unfoldable pub fitting : ℕ → List Answer → List ℕ
+fitting room [] = []
+fitting room (answer ∷ more) = cond (nat_le (length (answer_line answer)) room) (answer_line answer ++ fitting (room - length (answer_line answer)) more) []
+
+-- a buffer with those lines at its front: later bytes stay
+abbrev pub fitting_front : List Answer → List ℕ → List ℕ
+fitting_front answers buffer = fitting (length buffer) answers ++ drop (length (fitting (length buffer) answers)) buffer

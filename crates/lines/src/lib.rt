@@ -1,0 +1,7 @@
+// Answers and faults as lines of text, in the caller's bytes.
+mod line;
+mod lines;
+mod text;
+
+pub use line::{write_answer_line, write_fault_line};
+pub use lines::write_lines;

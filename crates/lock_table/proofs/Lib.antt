@@ -1,0 +1,5 @@
+pub mod Each
+pub mod NoLocks
+pub mod Tables
+pub mod Says
+pub mod Asking

@@ -1,0 +1,161 @@
+-- The theorem about one worked day, and the steps of a loop that makes one call after the other.
+use Rattle.std.proofs.Common.{◌≡◌, ℕ, suc, ◌+◌, ◌<◌, List, [], ◌∷◌, ◌++◌, length, get_or, take, set, sym, refl, ap, ◌∙◌, subst, ap₂, inl, inr, arith}
+use Rattle.std.proofs.lemmas.List.{take_more, take_more_set, length-append}
+use Rattle.protocol.specs.declared.request.Request.{Request}
+use Rattle.protocol.specs.declared.answer.Answer.{Answer}
+use Rattle.serial.specs.Words.{Setup, Laws, Store}
+use Rattle.serial.specs.Model.{State, step, answer, after}
+use Rattle.serial.specs.Serial.{Replays}
+use Rattle.serial.specs.History.{Event, History, transcript, Run, start, then, Admitted}
+use Rattle.serial.specs.Day.{Strikes, StruckIn, RunsAreSerial}
+use Rattle.serial.specs.OneDay.{recorded, history, morning, Moment, IsMomentOf, DayDone, Worked, EveryDayIsDone}
+use Rattle.serial.proofs.Basics.{never}
+use Rattle.serial.proofs.Main.{day_is_serial}
+
+-- no event is in the empty history
+empty : {A : Type 0} (later : History) (e : Event) (earlier : History) → [] ≡ later ++ (e ∷ earlier) → A
+empty [] e earlier q = never (cc)
+empty (l ∷ later) e earlier q = never (cc)
+
+-- the moments of a day
+
+record Found (S : Setup) (σ₀ : State) (e : Event) (earlier : History) : Type 0 where
+  pub state : State
+  pub run : Run S σ₀ earlier state
+  pub answered : answer S state e.request ≡ e.answer
+
+found : (S : Setup) (σ₀ : State) {h : History} {σ : State} → Run S σ₀ h σ → (later : History) (e : Event) (earlier : History) → h ≡ later ++ (e ∷ earlier) → Found S σ₀ e earlier
+found S σ₀ start later e earlier q = empty later e earlier q
+found S σ₀ (then {h = h} {σ = σ} run r) [] e earlier q =
+    let head : record { request = r; answer = answer S σ r } ≡ e = cc in
+    let tail : h ≡ earlier = cc in
+    record { state = σ; run = subst (λ l. Run S σ₀ l σ) tail run; answered = sym (ap (λ x. answer S σ x.request) head) ∙ ap (λ x. x.answer) head }
+found S σ₀ (then {h = h} run r) (l ∷ later) e earlier q =
+    let tail : h ≡ later ++ (e ∷ earlier) = cc in
+    found S σ₀ run later e earlier tail
+
+pub moment_of : (S : Setup) (σ₀ : State) {h : History} {σ : State} → Run S σ₀ h σ → (later : History) (e : Event) (earlier : History) → h ≡ later ++ (e ∷ earlier)
+    → (m : Moment S σ₀ h) × IsMomentOf m later e earlier
+moment_of S σ₀ run later e earlier q =
+    let w = found S σ₀ run later e earlier q in (
+      record {
+        earlier = earlier;
+        state = w.state;
+        run = w.run;
+        request = e.request;
+        later = later;
+        in_day = q ∙ ap (λ a. later ++ (record { request = e.request; answer = a } ∷ earlier)) (sym w.answered);
+      },
+      record { same_earlier = refl; same_request = refl; same_answer = w.answered; same_later = refl },
+    )
+
+-- a history leads to one state only
+pub run_ends : (S : Setup) (σ₀ : State) {h k : History} {σ τ : State} → h ≡ k → Run S σ₀ h σ → Run S σ₀ k τ → σ ≡ τ
+run_ends S σ₀ q start start = refl
+run_ends S σ₀ q start (then run r) = never (cc)
+run_ends S σ₀ q (then run r) start = never (cc)
+run_ends S σ₀ q (then {h = h} {σ = σ} run r) (then {h = k} {σ = τ} other o) =
+    let head : ◌≡◌ {A = Event} (record { request = r; answer = answer S σ r }) (record { request = o; answer = answer S τ o }) = cc in
+    let tail : h ≡ k = cc in
+    ap₂ (after S) (run_ends S σ₀ tail run other) (ap (λ (e : Event). e.request) head)
+
+struck_in : (S : Setup) (σ₀ : State) {h : History} {σ : State} (run : Run S σ₀ h σ) (m : Moment S σ₀ h) (t : ℕ) → Strikes S m.state m.request t
+    → StruckIn run t
+unfolding StruckIn
+struck_in S σ₀ run m t s = go run m.later m.in_day
+  where
+    go : {h : History} {σ : State} (run : Run S σ₀ h σ) (later : History)
+        → h ≡ later ++ (record { request = m.request; answer = answer S m.state m.request } ∷ m.earlier) → StruckIn run t
+    go start later q = empty later _ _ q
+    go (then {h = h} {σ = σ} run r) [] q =
+        let head : ◌≡◌ {A = Event} (record { request = r; answer = answer S σ r }) (record { request = m.request; answer = answer S m.state m.request }) = cc in
+        let tail : h ≡ m.earlier = cc in
+        inr (subst (λ (e : Event). Strikes S σ e.request t) (sym head) (subst (λ x. Strikes S x m.request t) (sym (run_ends S σ₀ tail run m.run)) s))
+    go (then {h = h} run r) (l ∷ later) q = inl (go run later (cc))
+
+pub day_done : (S : Setup) → Laws S → (before after : Store) → Admitted S (morning before) → (rs : List Request) (bs : List Answer) (σ : State)
+    → length bs ≡ length rs → Run S (morning before) (history rs bs) σ → σ.store ≡ after → DayDone S before after rs bs
+day_done S laws before after adm rs bs σ long run ends = record {
+  every_request_answered = long;
+  evening = σ;
+  run = run;
+  stores_at_evening = ends;
+  serial_executor_grants = all.serial_executor_grants run;
+  serial_executor_ends_equal = all.serial_executor_ends_equal run ∙ ends;
+  open_transactions_replay = λ t o. subst (λ s. Replays S s (transcript (history rs bs) t).subject (transcript (history rs bs) t).calls) ends (all.open_transactions_replay run t o);
+  each_event_has_its_moment = moment_of S (morning before) run;
+  restriction_strikes_deployers = λ m. all.restriction_strikes_deployers m.run m.request;
+  restriction_counts_struck = λ m. all.restriction_counts_struck m.run m.request;
+  no_deploy_while_restricting = λ m. all.no_deploy_while_restricting m.run m.request;
+  nothing_else_strikes = λ m. all.nothing_else_strikes m.run m.request;
+  struck_at_a_moment_is_struck = struck_in S (morning before) run;
+  struck_never_commit = all.struck_never_commit run;
+}
+  where
+    all : RunsAreSerial S (morning before)
+    all = day_is_serial S laws (morning before) adm
+
+-- the steps of a loop that makes one call after the other
+
+-- laid on a history with something below it
+recorded_above : (rs : List Request) (bs : List Answer) (k h : History) → recorded rs bs (k ++ h) ≡ recorded rs bs k ++ h
+recorded_above [] bs k h = refl
+recorded_above (r ∷ rs) [] k h = refl
+recorded_above (r ∷ rs) (b ∷ bs) k h = recorded_above rs bs (record { request = r; answer = b } ∷ k) h
+
+run_on : {S : Setup} {σ₀ σ τ : State} {h k : History} → Run S σ₀ h σ → Run S σ k τ → Run S σ₀ (k ++ h) τ
+run_on run start = run
+run_on run (then more r) = then (run_on run more) r
+
+recorded_both : (rs : List Request) (bs : List Answer) (rs' : List Request) (bs' : List Answer) (h : History) → length bs ≡ length rs
+    → recorded (rs ++ rs') (bs ++ bs') h ≡ recorded rs' bs' (recorded rs bs h)
+recorded_both [] [] rs' bs' h e = refl
+recorded_both [] (b ∷ bs) rs' bs' h e = absurd (let k : suc (length bs) ≡ 0 = e in omega arith)
+recorded_both (r ∷ rs) [] rs' bs' h e = absurd (let k : 0 ≡ suc (length rs) = e in omega arith)
+recorded_both (r ∷ rs) (b ∷ bs) rs' bs' h e =
+    recorded_both rs bs rs' bs' (record { request = r; answer = b } ∷ h) (let k : suc (length bs) ≡ suc (length rs) = e in omega arith)
+
+module _ {S : Setup} {σ : State} where
+  pub worked_none : Worked S σ [] [] σ
+  worked_none = record { all_answered = refl; goes_on = λ run. run }
+
+  -- some requests and then some more
+  pub worked_on : {rs rs' : List Request} {bs bs' : List Answer} {τ υ : State} → Worked S σ rs bs τ → Worked S τ rs' bs' υ
+      → Worked S σ (rs ++ rs') (bs ++ bs') υ
+  worked_on {rs} {rs'} {bs} {bs'} {υ = υ} w v = record {
+    all_answered = length-append bs bs' ∙ ap₂ ◌+◌ w.all_answered v.all_answered ∙ sym (length-append rs rs');
+    goes_on = λ {σ₀} {h} run. subst (λ l. Run S σ₀ l υ) (sym (recorded_both rs bs rs' bs' h w.all_answered)) (v.goes_on (w.goes_on run));
+  }
+
+  pub worked_one : {τ : State} {a : Answer} (r : Request) → (a, τ) ≡ step S σ r → Worked S σ (r ∷ []) (a ∷ []) τ
+  worked_one r e = record {
+    all_answered = refl;
+    goes_on = λ {σ₀} {h} run. subst (λ (z : Answer × State). Run S σ₀ (record { request = r; answer = z.0 } ∷ h) z.1) (sym e) (then run r);
+  }
+
+  -- the same in plain words: the requests with their answers are a run from the state
+  pub run_worked : {rs : List Request} {bs : List Answer} {τ : State} → length bs ≡ length rs → Run S σ (history rs bs) τ → Worked S σ rs bs τ
+  run_worked {rs} {bs} {τ} long more = record {
+    all_answered = long;
+    goes_on = λ {σ₀} {h} run. subst (λ l. Run S σ₀ l τ) (sym (recorded_above rs bs [] h)) (run_on run more);
+  }
+
+  pub worked_run : {rs : List Request} {bs : List Answer} {τ : State} → Worked S σ rs bs τ → Run S σ (history rs bs) τ
+  worked_run w = w.goes_on start
+
+pub worked_push : {S : Setup} {σ τ τ' : State} {rs : List Request} {bs : List Answer} {a : Answer} → Worked S σ rs bs τ → (r : Request) → (a, τ') ≡ step S τ r
+    → Worked S σ (rs ++ r ∷ []) (bs ++ a ∷ []) τ'
+worked_push w r e = worked_on w (worked_one r e)
+
+-- the requests and the answers are slices; the answers so far stand before the index
+pub worked_more : {S : Setup} {σ τ τ' : State} {a : Answer} (rs : List Request) (bs : List Answer) (k : ℕ) (d : Request)
+    → Worked S σ (take k rs) (take k bs) τ → k < length rs → k < length bs → (a, τ') ≡ step S τ (get_or rs k d)
+    → Worked S σ (take (k + 1) rs) (take (k + 1) (set bs k a)) τ'
+worked_more {a = a} rs bs k d w lr lb e = rw (take_more rs k d lr, take_more_set bs k a lb) (worked_push w (get_or rs k d) e)
+
+pub worked_day : {S : Setup} → Laws S → {before after : Store} {rs : List Request} {bs : List Answer} {σ : State} → Worked S (morning before) rs bs σ → σ.store ≡ after
+    → Admitted S (morning before) → DayDone S before after rs bs
+worked_day {S} laws {before} {after} {rs} {bs} {σ} w ends adm = day_done S laws before after adm rs bs σ w.all_answered (w.goes_on start) ends
+
+pub every_day_is_done : EveryDayIsDone
+every_day_is_done S laws before adm requests answers evening w = worked_day laws w refl adm
