@@ -2,6 +2,8 @@
 #![tactic(auto)]
 
 #[cfg(test)]
+mod line_tests;
+#[cfg(test)]
 mod lock_tests;
 #[cfg(test)]
 mod log_store_tests;

@@ -1,4 +1,6 @@
 // Answers and faults as lines of text, in the caller's bytes.
+#![tactic(auto)]
+
 mod line;
 mod lines;
 mod text;

@@ -5,17 +5,16 @@ use Rattle.std.proofs.lemmas.Bool.{cases_eq, eq-eqb, ne_eqb}
 use Rattle.std.proofs.lemmas.Bool.Decides.{nat_tests}
 use Rattle.locking.specs.Modes.{same_cell_mode, same_policy_mode}
 use Rattle.locking.specs.Locks.{counts, Waits}
-use Rattle.locking.specs.CellLocks.{cell_holds, cell_says_no, cell_blocks, CellGranted}
-use Rattle.locking.specs.PolicyLocks.{policy_holds, policy_says_so, policy_hears, PolicyGranted}
-use Rattle.locking.specs.declared.mode.LockAnswer.TheVariants.{Conflict, Signal}
+use Rattle.locking.specs.CellLocks.{cell_holds, cell_blocks, CellGranted}
+use Rattle.locking.specs.PolicyLocks.{policy_holds, policy_hears, PolicyGranted}
+use Rattle.locking.specs.declared.mode.LockAnswer.TheVariants.{Conflict}
 use Rattle.locking.specs.declared.mode.CellMode.{CellMode}
 use Rattle.locking.specs.declared.mode.PolicyMode.{PolicyMode}
 use Rattle.locking.specs.declared.cell.CellRow.{CellRow}
 use Rattle.locking.specs.declared.policy.PolicyRow.{PolicyRow}
-use Rattle.serial.specs.Locks.{Lock, OnCell, OnPolicy, same_lock, locks_beside, held_say}
-use Rattle.serial.specs.Model.{is_conflict, is_signal}
+use Rattle.serial.specs.Locks.{Lock, on_cell, on_policy, same_lock}
 use Rattle.lock_table.specs.Rows.{no_cell, no_policy, held_by}
-use Rattle.lock_table.specs.Held.{conflicts, signals, Granted}
+use Rattle.lock_table.specs.Held.{conflicts, Granted}
 use Rattle.lock_table.proofs.Says.{cell_conflict, cell_signal, policy_conflict, policy_signal}
 
 waits_same : (f g : ℕ → Bool) {b : ℕ → Bool} → ((k : ℕ) → f k ≡ g k) → Waits f b → Waits g b
@@ -48,17 +47,17 @@ module _ (cs : List CellRow) (ps : List PolicyRow) (i : ℕ) where
 
   -- on a cell
   module _ (m : CellMode) (c : ℕ) where
-    cell_hears : (k : ℕ) → cell_blocks (cell_holds (get_or cs c no_cell)) m i k ≡ conflicts holds (OnCell m c) i k
-    cell_hears k = ap (λ x. counts (holds i (OnCell m c)) i k && x) (sym (cell_conflict holds k m c))
+    cell_hears : (k : ℕ) → cell_blocks (cell_holds (get_or cs c no_cell)) m i k ≡ conflicts holds (on_cell m c) i k
+    cell_hears k = ap (λ x. counts (holds i (on_cell m c)) i k && x) (sym (cell_conflict holds k m c))
 
-    pub cell_waits : {b : ℕ → Bool} → Waits (cell_blocks (cell_holds (get_or cs c no_cell)) m i) b → Waits (conflicts holds (OnCell m c) i) b
+    pub cell_waits : {b : ℕ → Bool} → Waits (cell_blocks (cell_holds (get_or cs c no_cell)) m i) b → Waits (conflicts holds (on_cell m c) i) b
     cell_waits = waits_same _ _ cell_hears
 
     pub cell_granted : (row : CellRow) (struck : ℕ → Bool) → c < length cs → ((k : ℕ) → struck k ≡ false) → CellGranted (cell_holds (get_or cs c no_cell)) m i (cell_holds row)
-        → Granted holds (OnCell m c) i (held_by (set cs c row) ps) struck
+        → Granted holds (on_cell m c) i (held_by (set cs c row) ps) struck
     cell_granted row struck lt none g = record {
       nobody_conflicts = λ k. sym (cell_hears k) ∙ g.nobody_conflicts k;
-      signals_struck = λ k. none k ∙ and_no (counts (holds i (OnCell m c)) i k) _ (cell_signal holds k m c);
+      signals_struck = λ k. none k ∙ and_no (counts (holds i (on_cell m c)) i k) _ (cell_signal holds k m c);
       locks_after = after;
     }
       where
@@ -69,27 +68,27 @@ module _ (cs : List CellRow) (ps : List PolicyRow) (i : ℕ) where
         on_row n d k (inr ne) =
             ap (λ r. cell_holds r n k) (get_or-set_other cs c d row no_cell ne) ∙ other_row (same_cell_mode n m) (eqb k i) (cell_holds (get_or cs d no_cell) n k) d c ne
 
-        after : (k : ℕ) (l : Lock) → held_by (set cs c row) ps k l ≡ ((same_lock l (OnCell m c) && eqb k i) || (holds k l && not (struck k)))
-        after k (OnCell n d) = on_row n d k (cases_eq d c) ∙ ap (λ x. (same_cell_mode n m && eqb d c && eqb k i) || x) (kept (cell_holds (get_or cs d no_cell) n k) (struck k) (none k))
-        after k (OnPolicy n q) = kept (policy_holds (get_or ps q no_policy) n k) (struck k) (none k)
+        after : (k : ℕ) (l : Lock) → held_by (set cs c row) ps k l ≡ ((same_lock l (on_cell m c) && eqb k i) || (holds k l && not (struck k)))
+        after k (on_cell n d) = on_row n d k (cases_eq d c) ∙ ap (λ x. (same_cell_mode n m && eqb d c && eqb k i) || x) (kept (cell_holds (get_or cs d no_cell) n k) (struck k) (none k))
+        after k (on_policy n q) = kept (policy_holds (get_or ps q no_policy) n k) (struck k) (none k)
 
   -- on a policy
   module _ (m : PolicyMode) (p : ℕ) where
-    policy_hears_no : (k : ℕ) → policy_hears (policy_holds (get_or ps p no_policy)) Conflict m i k ≡ conflicts holds (OnPolicy m p) i k
-    policy_hears_no k = ap (λ x. counts (holds i (OnPolicy m p)) i k && x) (sym (policy_conflict holds k m p))
+    policy_hears_no : (k : ℕ) → policy_hears (policy_holds (get_or ps p no_policy)) Conflict m i k ≡ conflicts holds (on_policy m p) i k
+    policy_hears_no k = ap (λ x. counts (holds i (on_policy m p)) i k && x) (sym (policy_conflict holds k m p))
 
-    pub policy_waits : {b : ℕ → Bool} → Waits (policy_hears (policy_holds (get_or ps p no_policy)) Conflict m i) b → Waits (conflicts holds (OnPolicy m p) i) b
+    pub policy_waits : {b : ℕ → Bool} → Waits (policy_hears (policy_holds (get_or ps p no_policy)) Conflict m i) b → Waits (conflicts holds (on_policy m p) i) b
     policy_waits = waits_same _ _ policy_hears_no
 
     pub policy_granted : (row : PolicyRow) (struck : ℕ → Bool) (end : ℕ → Lock → Bool) → p < length ps → PolicyGranted (policy_holds (get_or ps p no_policy)) m i (policy_holds row) struck
-        → ((k : ℕ) (l : Lock) → end k l ≡ (held_by cs (set ps p row) k l && not (struck k))) → Granted holds (OnPolicy m p) i end struck
+        → ((k : ℕ) (l : Lock) → end k l ≡ (held_by cs (set ps p row) k l && not (struck k))) → Granted holds (on_policy m p) i end struck
     policy_granted row struck end lt g released = record {
       nobody_conflicts = quiet;
-      signals_struck = λ k. g.signals_struck k ∙ sym (and_if (counts (holds i (OnPolicy m p)) i k) _ _ _ (quiet k) (policy_signal holds k m p));
+      signals_struck = λ k. g.signals_struck k ∙ sym (and_if (counts (holds i (on_policy m p)) i k) _ _ _ (quiet k) (policy_signal holds k m p));
       locks_after = λ k l. released k l ∙ after k l;
     }
       where
-        quiet : (k : ℕ) → conflicts holds (OnPolicy m p) i k ≡ false
+        quiet : (k : ℕ) → conflicts holds (on_policy m p) i k ≡ false
         quiet k = sym (policy_hears_no k) ∙ g.nobody_conflicts k
 
         on_row : (n : PolicyMode) (q k : ℕ) → (q ≡ p) ⊎ (q ≢ p)
@@ -102,6 +101,6 @@ module _ (cs : List CellRow) (ps : List PolicyRow) (i : ℕ) where
         on_row n q k (inr ne) =
             ap (λ r. policy_holds r n k && not (struck k)) (get_or-set_other ps p q row no_policy ne) ∙ other_row (same_policy_mode n m) (eqb k i) (policy_holds (get_or ps q no_policy) n k && not (struck k)) q p ne
 
-        after : (k : ℕ) (l : Lock) → (held_by cs (set ps p row) k l && not (struck k)) ≡ ((same_lock l (OnPolicy m p) && eqb k i) || (holds k l && not (struck k)))
-        after k (OnCell n d) = refl
-        after k (OnPolicy n q) = on_row n q k (cases_eq q p)
+        after : (k : ℕ) (l : Lock) → (held_by cs (set ps p row) k l && not (struck k)) ≡ ((same_lock l (on_policy m p) && eqb k i) || (holds k l && not (struck k)))
+        after k (on_cell n d) = refl
+        after k (on_policy n q) = on_row n q k (cases_eq q p)

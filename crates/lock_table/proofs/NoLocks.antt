@@ -1,5 +1,5 @@
 -- Rows with no lock.
-use Rattle.std.proofs.Common.{◌≡◌, ℕ, Bool, false, not, ◌&&◌, sym, refl, ap, ◌∙◌, arith}
+use Rattle.std.proofs.Common.{◌≡◌, ℕ, Bool, false, not, ◌&&◌, sym, ap, ◌∙◌, arith}
 use Rattle.std.proofs.lemmas.Bool.{both_ways}
 use Rattle.locking.specs.Locks.{Beside}
 use Rattle.locking.specs.CellLocks.{cell_holds, CellCompatible}

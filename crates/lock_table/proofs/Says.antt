@@ -4,7 +4,6 @@ use mathlib.Core.Path.{fun_ext}
 use Rattle.std.proofs.lemmas.Bool.{eq-eqb}
 use Rattle.std.proofs.lemmas.Bool.Decides.{nat_tests}
 use Rattle.locking.specs.Modes.{cell_says, policy_says, same_answer}
-use Rattle.locking.specs.Locks.{says_so}
 use Rattle.locking.specs.CellLocks.{cell_says_no}
 use Rattle.locking.specs.PolicyLocks.{policy_says_so}
 use Rattle.locking.specs.declared.mode.LockAnswer.{LockAnswer}
@@ -13,7 +12,7 @@ use Rattle.locking.specs.declared.mode.CellMode.{CellMode}
 use Rattle.locking.specs.declared.mode.CellMode.TheVariants.{ReadCell, WriteCell}
 use Rattle.locking.specs.declared.mode.PolicyMode.{PolicyMode}
 use Rattle.locking.specs.declared.mode.PolicyMode.TheVariants.{ReadPolicy, Relax, Restrict, Deploy}
-use Rattle.serial.specs.Locks.{Lock, OnCell, OnPolicy, worse, held_say, locks_beside}
+use Rattle.serial.specs.Locks.{Lock, on_cell, on_policy, worse, held_say, locks_beside}
 use Rattle.serial.specs.Model.{is_conflict, is_signal}
 
 -- One lock more, held or not: what it says, and what the others say together.
@@ -90,39 +89,39 @@ cell_never_signals true true WriteCell = refl
 module _ (holds : ℕ → Lock → Bool) (k : ℕ) where
   -- on a cell
   module _ (m : CellMode) (c : ℕ) where
-    cell_say : held_say (holds k) (OnCell m c) (locks_beside (OnCell m c)) ≡ say (holds k (OnCell ReadCell c)) (cell_says ReadCell m) (say (holds k (OnCell WriteCell c)) (cell_says WriteCell m) Compatible)
+    cell_say : held_say (holds k) (on_cell m c) (locks_beside (on_cell m c)) ≡ say (holds k (on_cell ReadCell c)) (cell_says ReadCell m) (say (holds k (on_cell WriteCell c)) (cell_says WriteCell m) Compatible)
     unfolding held_say
     cell_say =
-        ap (λ s. say (holds k (OnCell ReadCell c)) (s (cell_says ReadCell m)) (say (holds k (OnCell WriteCell c)) (s (cell_says WriteCell m)) Compatible))
+        ap (λ s. say (holds k (on_cell ReadCell c)) (s (cell_says ReadCell m)) (say (holds k (on_cell WriteCell c)) (s (cell_says WriteCell m)) Compatible))
         (fun_ext (λ x. here c x Compatible))
 
-    pub cell_conflict : is_conflict (held_say (holds k) (OnCell m c) (locks_beside (OnCell m c))) ≡ cell_says_no (λ n j. holds j (OnCell n c)) m k
+    pub cell_conflict : is_conflict (held_say (holds k) (on_cell m c) (locks_beside (on_cell m c))) ≡ cell_says_no (λ n j. holds j (on_cell n c)) m k
     unfolding cell_says_no
-    cell_conflict = ap is_conflict cell_say ∙ two_conflict (holds k (OnCell ReadCell c)) (holds k (OnCell WriteCell c)) (cell_says ReadCell m) (cell_says WriteCell m)
+    cell_conflict = ap is_conflict cell_say ∙ two_conflict (holds k (on_cell ReadCell c)) (holds k (on_cell WriteCell c)) (cell_says ReadCell m) (cell_says WriteCell m)
 
-    pub cell_signal : is_signal (held_say (holds k) (OnCell m c) (locks_beside (OnCell m c))) ≡ false
-    cell_signal = ap is_signal cell_say ∙ cell_never_signals (holds k (OnCell ReadCell c)) (holds k (OnCell WriteCell c)) m
+    pub cell_signal : is_signal (held_say (holds k) (on_cell m c) (locks_beside (on_cell m c))) ≡ false
+    cell_signal = ap is_signal cell_say ∙ cell_never_signals (holds k (on_cell ReadCell c)) (holds k (on_cell WriteCell c)) m
 
   -- on a policy
   module _ (m : PolicyMode) (p : ℕ) where
-    policy_say : held_say (holds k) (OnPolicy m p) (locks_beside (OnPolicy m p))
-        ≡ say (holds k (OnPolicy ReadPolicy p)) (policy_says ReadPolicy m) (say (holds k (OnPolicy Relax p)) (policy_says Relax m)
-        (say (holds k (OnPolicy Restrict p)) (policy_says Restrict m) (say (holds k (OnPolicy Deploy p)) (policy_says Deploy m) Compatible)))
+    policy_say : held_say (holds k) (on_policy m p) (locks_beside (on_policy m p))
+        ≡ say (holds k (on_policy ReadPolicy p)) (policy_says ReadPolicy m) (say (holds k (on_policy Relax p)) (policy_says Relax m)
+        (say (holds k (on_policy Restrict p)) (policy_says Restrict m) (say (holds k (on_policy Deploy p)) (policy_says Deploy m) Compatible)))
     unfolding held_say
     policy_say =
-        ap (λ s. say (holds k (OnPolicy ReadPolicy p)) (s (policy_says ReadPolicy m)) (say (holds k (OnPolicy Relax p)) (s (policy_says Relax m))
-        (say (holds k (OnPolicy Restrict p)) (s (policy_says Restrict m)) (say (holds k (OnPolicy Deploy p)) (s (policy_says Deploy m)) Compatible))))
+        ap (λ s. say (holds k (on_policy ReadPolicy p)) (s (policy_says ReadPolicy m)) (say (holds k (on_policy Relax p)) (s (policy_says Relax m))
+        (say (holds k (on_policy Restrict p)) (s (policy_says Restrict m)) (say (holds k (on_policy Deploy p)) (s (policy_says Deploy m)) Compatible))))
         (fun_ext (λ x. here p x Compatible))
 
-    pub policy_conflict : is_conflict (held_say (holds k) (OnPolicy m p) (locks_beside (OnPolicy m p))) ≡ policy_says_so (λ n j. holds j (OnPolicy n p)) Conflict m k
+    pub policy_conflict : is_conflict (held_say (holds k) (on_policy m p) (locks_beside (on_policy m p))) ≡ policy_says_so (λ n j. holds j (on_policy n p)) Conflict m k
     unfolding policy_says_so
     policy_conflict = ap is_conflict policy_say
-        ∙ four_conflict (holds k (OnPolicy ReadPolicy p)) (holds k (OnPolicy Relax p)) (holds k (OnPolicy Restrict p)) (holds k (OnPolicy Deploy p)) (policy_says ReadPolicy m) (policy_says Relax m) (policy_says Restrict m) (policy_says Deploy m)
+        ∙ four_conflict (holds k (on_policy ReadPolicy p)) (holds k (on_policy Relax p)) (holds k (on_policy Restrict p)) (holds k (on_policy Deploy p)) (policy_says ReadPolicy m) (policy_says Relax m) (policy_says Restrict m) (policy_says Deploy m)
 
     -- where none says no
-    pub policy_signal : is_conflict (held_say (holds k) (OnPolicy m p) (locks_beside (OnPolicy m p))) ≡ false
-        → is_signal (held_say (holds k) (OnPolicy m p) (locks_beside (OnPolicy m p))) ≡ policy_says_so (λ n j. holds j (OnPolicy n p)) Signal m k
+    pub policy_signal : is_conflict (held_say (holds k) (on_policy m p) (locks_beside (on_policy m p))) ≡ false
+        → is_signal (held_say (holds k) (on_policy m p) (locks_beside (on_policy m p))) ≡ policy_says_so (λ n j. holds j (on_policy n p)) Signal m k
     unfolding policy_says_so
     policy_signal e = ap is_signal policy_say
-        ∙ four_signal (holds k (OnPolicy ReadPolicy p)) (holds k (OnPolicy Relax p)) (holds k (OnPolicy Restrict p)) (holds k (OnPolicy Deploy p)) (policy_says ReadPolicy m) (policy_says Relax m) (policy_says Restrict m) (policy_says Deploy m)
+        ∙ four_signal (holds k (on_policy ReadPolicy p)) (holds k (on_policy Relax p)) (holds k (on_policy Restrict p)) (holds k (on_policy Deploy p)) (policy_says ReadPolicy m) (policy_says Relax m) (policy_says Restrict m) (policy_says Deploy m)
         (sym (ap is_conflict policy_say) ∙ e)

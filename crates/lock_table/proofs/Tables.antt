@@ -1,5 +1,5 @@
 -- The rows of a table, one by one.
-use Rattle.std.proofs.Common.{◌≡◌, ℕ, ◌<◌, ◌≤◌, Bool, false, not, ◌&&◌, ◌≢◌, ◌⊎◌, List, length, get_or, set, replicate, Some, None, Option, sym, refl, ap, ◌∙◌, subst, inl, inr, arith, MatchOption}
+use Rattle.std.proofs.Common.{◌≡◌, ℕ, ◌<◌, ◌≤◌, Bool, false, not, ◌&&◌, ◌≢◌, ◌⊎◌, List, length, get_or, set, replicate, Some, None, Option, sym, ap, ◌∙◌, subst, inl, inr, arith, MatchOption}
 use mathlib.Core.Logic.{∥∥₁_elim, ∥∥₁_map}
 use mathlib.Core.Bool.{Bool-set}
 use Rattle.std.proofs.lemmas.List.{get_or_default, get_or_past, get_or-replicate, get_or-set_same, get_or-set_other, length-set, length-replicate}
@@ -12,7 +12,7 @@ use Rattle.locking.specs.declared.cell.CellRow.{CellRow}
 use Rattle.locking.specs.declared.cell.CellLocks.{CellLocks}
 use Rattle.locking.specs.declared.policy.PolicyRow.{PolicyRow}
 use Rattle.locking.specs.declared.policy.PolicyLocks.{PolicyLocks}
-use Rattle.serial.specs.Locks.{Lock, OnCell, OnPolicy}
+use Rattle.serial.specs.Locks.{Lock, on_cell, on_policy}
 use Rattle.lock_table.specs.Rows.{no_cell, no_policy, Compatible, held_by}
 use Rattle.lock_table.specs.Released.{CellReleased, PolicyReleased}
 use Rattle.lock_table.proofs.NoLocks.{cell_none, policy_none, no_cell_fits, no_policy_fits}
@@ -64,8 +64,8 @@ module _ (r : CellRow) (s : PolicyRow) where
 
   pub alike_held : ((m : CellMode) (k : ℕ) → cell_holds r m k ≡ false) → ((m : PolicyMode) (k : ℕ) → policy_holds s m k ≡ false)
       → (k : ℕ) (lock : Lock) → held_by (replicate 256 r) (replicate 64 s) k lock ≡ false
-  alike_held e f k (OnCell m c) = getD_same (λ row. cell_holds row m k ≡ false) 256 c r no_cell (e m k) (cell_none m k)
-  alike_held e f k (OnPolicy m p) = getD_same (λ row. policy_holds row m k ≡ false) 64 p s no_policy (f m k) (policy_none m k)
+  alike_held e f k (on_cell m c) = getD_same (λ row. cell_holds row m k ≡ false) 256 c r no_cell (e m k) (cell_none m k)
+  alike_held e f k (on_policy m p) = getD_same (λ row. policy_holds row m k ≡ false) 64 p s no_policy (f m k) (policy_none m k)
 
 -- some slots have lost their locks
 module _ (cs cs' : List CellRow) (ps ps' : List PolicyRow) (gone : ℕ → Bool) (e : (c : ℕ) → CellReleased gone (get_or cs c no_cell) (get_or cs' c no_cell)) (f : (p : ℕ) → PolicyReleased gone (get_or ps p no_policy) (get_or ps' p no_policy)) where
@@ -73,8 +73,8 @@ module _ (cs cs' : List CellRow) (ps ps' : List PolicyRow) (gone : ℕ → Bool)
   released_fit fit = ∥∥₁_map fit (λ all. record { of_cell = λ c. (e c (all.of_cell c)).0; of_policy = λ p. (f p (all.of_policy p)).0 })
 
   pub released_held : ∥ Compatible cs ps ∥₁ → (k : ℕ) (lock : Lock) → held_by cs' ps' k lock ≡ (held_by cs ps k lock && not (gone k))
-  released_held fit k (OnCell mode c) = ∥∥₁_elim fit (Bool-set _ _) (λ all. (e c (all.of_cell c)).1 mode k)
-  released_held fit k (OnPolicy mode p) = ∥∥₁_elim fit (Bool-set _ _) (λ all. (f p (all.of_policy p)).1 mode k)
+  released_held fit k (on_cell mode c) = ∥∥₁_elim fit (Bool-set _ _) (λ all. (e c (all.of_cell c)).1 mode k)
+  released_held fit k (on_policy mode p) = ∥∥₁_elim fit (Bool-set _ _) (λ all. (f p (all.of_policy p)).1 mode k)
 
 set_all : {X : Type 0} (P : X → Type 0) (xs : List X) (n : ℕ) (x d : X) → P x → ((i : ℕ) → P (get_or xs i d)) → P d → (i : ℕ) → P (get_or (set xs n x) i d)
 set_all P xs n x d new old at_d i = go (cases_eq i n) (cases_lt n (length xs))

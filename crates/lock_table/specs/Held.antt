@@ -1,11 +1,10 @@
 -- What the table means: who holds which lock. And what asking for a lock comes to, in the words of the machine.
-use Rattle.std.specs.Prelude.{◌≡◌, ℕ, ◌≤◌, Bool, true, false, not, ◌&&◌, ◌||◌, Ok, Err, Result, ◌==◌, nat_lt}
+use Rattle.std.specs.Prelude.{◌≡◌, ℕ, Bool, true, false, not, ◌&&◌, ◌||◌, Ok, Err, Result, ◌==◌, nat_lt}
 use Rattle.protocol.specs.declared.refusal.Refusal.{Refusal}
 use Rattle.protocol.specs.declared.refusal.Refusal.TheVariants.{Absent}
 use Rattle.locking.specs.Slots.{has}
 use Rattle.locking.specs.Locks.{counts, Waits}
-use Rattle.locking.specs.declared.mode.LockAnswer.{LockAnswer}
-use Rattle.serial.specs.Locks.{Lock, OnCell, OnPolicy, same_lock, locks_beside, held_say}
+use Rattle.serial.specs.Locks.{Lock, on_cell, on_policy, same_lock, locks_beside, held_say}
 use Rattle.serial.specs.Model.{is_conflict, is_signal}
 use Rattle.lock_table.specs.Rows.{held_by}
 use Rattle.lock_table.specs.declared.decision.Decision.{Decision}
@@ -17,8 +16,8 @@ held t k lock = held_by t.cells t.policies k lock
 
 -- There is a row for the lock.
 abbrev pub has_row : Lock → Bool
-has_row (OnCell mode cell) = nat_lt cell 256
-has_row (OnPolicy mode policy) = nat_lt policy 64
+has_row (on_cell mode cell) = nat_lt cell 256
+has_row (on_policy mode policy) = nat_lt policy 64
 
 module _ (holds : ℕ → Lock → Bool) (asked : Lock) (asker : ℕ) where
   -- The worst that the locks of slot k say to the asker; a slot's own locks never count, and none does where it holds the lock already.

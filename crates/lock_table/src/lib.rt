@@ -1,4 +1,6 @@
 // The locks of a day: who holds which lock on which cell and policy, and whether one more is granted.
+#![tactic(auto)]
+
 mod decision;
 mod lock_table;
 mod rows;

@@ -10,7 +10,7 @@ fn release_cell(row: CellRow, gone: SlotSet) -> CellRow
     ensures { CellReleased (has gone.mask) row result }
 {
     match CellLocks::from_row(row) {
-        Some(locks) => locks.release(gone).to_row(),
+        Some(locks) => locks.release_all(gone).to_row(),
         None => row,
     }
 }
@@ -19,7 +19,7 @@ fn release_policy(row: PolicyRow, gone: SlotSet) -> PolicyRow
     ensures { PolicyReleased (has gone.mask) row result }
 {
     match PolicyLocks::from_row(row) {
-        Some(locks) => locks.release(gone).to_row(),
+        Some(locks) => locks.release_all(gone).to_row(),
         None => row,
     }
 }

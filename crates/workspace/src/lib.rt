@@ -4,4 +4,5 @@
 mod place;
 mod workspace;
 
+pub use place::same_object;
 pub use workspace::Workspace;

@@ -6,7 +6,7 @@ ghost use Rattle.workspace.specs.Workspaces.{other};
 
 use protocol::{Change, Object};
 
-fn same_object(a: Object, b: Object) -> bool
+pub fn same_object(a: Object, b: Object) -> bool
     ensures { result ≡ same_object a b }
 {
     match (a, b) {

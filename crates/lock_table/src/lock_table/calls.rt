@@ -1,8 +1,8 @@
 // The calls of the table, promised by who holds which lock.
 ghost use Rattle.std.specs.Prelude.{◌≡◌, ℕ, ◌<◌, ◌≤◌, false, not, ◌&&◌, MatchOption, slice_index_or};
 ghost use Rattle.locking.specs.Slots.{has};
-ghost use Rattle.locking.specs.declared.mode.Lock.{Lock};
-ghost use Rattle.locking.specs.declared.mode.Lock.TheVariants.{OnCell, OnPolicy};
+ghost use Rattle.serial.specs.Locks.{Lock as ModelLock, on_cell, on_policy};
+ghost use Rattle.lock_table.specs.Words.{lock_of};
 ghost use Rattle.lock_table.specs.Rows.{no_cell, no_policy};
 ghost use Rattle.lock_table.specs.Held.{held, Asked};
 
@@ -17,7 +17,7 @@ use protocol::Refusal;
 
 impl LockTable {
     pub fn none() -> LockTable
-        ensures { (k : ℕ) (l : Lock) → held result k l ≡ false }
+        ensures { (k : ℕ) (l : ModelLock) → held result k l ≡ false }
     {
         let cell = CellLocks::none().to_row();
         let policy = PolicyLocks::none().to_row();
@@ -47,7 +47,7 @@ impl LockTable {
     }
 
     pub fn holds(&self, slot: SlotIndex, lock: Lock) -> bool
-        ensures { result ≡ held self.now slot.at lock }
+        ensures { result ≡ held self.now slot.at (lock_of lock) }
     {
         match lock {
             Lock::OnCell(mode, cell) => match self.cell_locks(cell) {
@@ -63,7 +63,7 @@ impl LockTable {
 
     // The slots of the set lose all their locks.
     pub fn release(&mut self, gone: SlotSet)
-        ensures { (k : ℕ) (l : Lock) → held self.new k l ≡ (held self.old k l && not (has gone.mask k)) }
+        ensures { (k : ℕ) (l : ModelLock) → held self.new k l ≡ (held self.old k l && not (has gone.mask k)) }
     {
         if gone.is_empty() {
             return;
@@ -73,7 +73,7 @@ impl LockTable {
     }
 
     fn ask_cell(&mut self, slot: SlotIndex, mode: CellMode, cell: u16) -> Result<Decision, Refusal>
-        ensures { Asked self.old (OnCell mode cell) slot.at result self.new }
+        ensures { Asked self.old (on_cell mode cell) slot.at result self.new }
     {
         let Some(locks) = self.cell_locks(cell) else {
             return Err(Refusal::Absent);
@@ -95,7 +95,7 @@ impl LockTable {
         mode: PolicyMode,
         policy: u16,
     ) -> Result<Decision, Refusal>
-        ensures { Asked self.old (OnPolicy mode policy) slot.at result self.new }
+        ensures { Asked self.old (on_policy mode policy) slot.at result self.new }
     {
         let Some(locks) = self.policy_locks(policy) else {
             return Err(Refusal::Absent);
@@ -113,7 +113,7 @@ impl LockTable {
 
     // Asks for a lock. To wait, or to be refused for want of such a row, is to leave all as it is.
     pub fn ask(&mut self, slot: SlotIndex, lock: Lock) -> Result<Decision, Refusal>
-        ensures { Asked self.old lock slot.at result self.new }
+        ensures { Asked self.old (lock_of lock) slot.at result self.new }
     {
         match lock {
             Lock::OnCell(mode, cell) => self.ask_cell(slot, mode, cell),

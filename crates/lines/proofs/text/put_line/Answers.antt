@@ -7,7 +7,7 @@ loop-i-init c = ended_none c.args.numbers.now c.args.text.now (omega arith)
 
 pub loop-i-preserved : goal.loop-i-preserved
 loop-i-preserved c =
-    let put = c.put-number-start in
+    let put = c.put_number-start in
     ended_more c.args.numbers.now c.loop-i.i _ _ c.requires c.loop-i.invariant put.result put.new.text (omega arith) (omega arith) (omega arith) (omega arith) (omega arith) put.ensures.after
 
 pub returns : goal.returns

@@ -5,8 +5,8 @@ use Rattle.lines.proofs.text.put_number.Goals as goal
 pub loop-rest-init : goal.loop-rest-init
 loop-rest-init c = left_none c.args.number _ _ (omega arith)
 
-pub overflow-sub-start : goal.overflow-sub-start
-overflow-sub-start c = omega (arith, left_room c.args.number c.args.end _ _ _ _ (omega arith) (omega arith) (omega arith) c.loop-rest.invariant)
+pub overflow_sub-start : goal.overflow_sub-start
+overflow_sub-start c = omega (arith, left_room c.args.number c.args.end _ _ _ _ (omega arith) (omega arith) (omega arith) c.loop-rest.invariant)
 
 pub loop-rest-preserved : goal.loop-rest-preserved
 loop-rest-preserved c = left_more c.args.number c.args.end _ _ _ _ (omega arith) (omega arith) (omega arith) c.loop-rest.invariant c.if-rest-eq0.false

@@ -11,7 +11,7 @@ loop-row-init c = front_none (CellReleased (has c.args.gone.mask)) no_cell c.arg
 
 pub loop-row-preserved : goal.loop-row-preserved
 loop-row-preserved c =
-    front_more (CellReleased (has c.args.gone.mask)) no_cell c.args.rows.now c.loop-row.rows c.loop-row.row-index _ _ (omega arith) c.loop-row.invariant c.release-cell.ensures
+    front_more (CellReleased (has c.args.gone.mask)) no_cell c.args.rows.now c.loop-row.rows c.loop-row.row-index _ _ (omega arith) c.loop-row.invariant c.release_cell.ensures
 
 pub returns : goal.returns
 returns c =

@@ -11,7 +11,7 @@ loop-row-init c = front_none (PolicyReleased (has c.args.gone.mask)) no_policy c
 
 pub loop-row-preserved : goal.loop-row-preserved
 loop-row-preserved c =
-    front_more (PolicyReleased (has c.args.gone.mask)) no_policy c.args.rows.now c.loop-row.rows c.loop-row.row-index _ _ (omega arith) c.loop-row.invariant c.release-policy.ensures
+    front_more (PolicyReleased (has c.args.gone.mask)) no_policy c.args.rows.now c.loop-row.rows c.loop-row.row-index _ _ (omega arith) c.loop-row.invariant c.release_policy.ensures
 
 pub returns : goal.returns
 returns c =

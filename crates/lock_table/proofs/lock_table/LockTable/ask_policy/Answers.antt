@@ -1,4 +1,4 @@
-use Rattle.std.proofs.Common.{◌≡◌, ◌<◌, length, get_or, sym, refl, ap, ◌∙◌, subst, arith}
+use Rattle.std.proofs.Common.{◌<◌, length, get_or, sym, refl, ◌∙◌, subst, arith}
 use Rattle.std.proofs.lemmas.List.{length-set}
 use Rattle.std.proofs.lemmas.Bool.{lt-ltb}
 use Rattle.locking.specs.Slots.{has}
@@ -12,16 +12,15 @@ use Rattle.lock_table.proofs.Tables.{policy_fits, policy_set_fit}
 use Rattle.lock_table.proofs.Asking.{policy_waits, policy_granted}
 use Rattle.lock_table.proofs.lock_table.LockTable.ask_policy.Goals as goal
 
-pub invariant-of-self : goal.invariant-of-self
-invariant-of-self c =
+pub invariant_of-self : goal.invariant_of-self
+invariant_of-self c =
     let e = c.args.self.now in
-    let row = c.to-row.result in (
-      e.celled,
-      (
-        length-set e.policies c.args.policy row ∙ e.policed,
-        (policy_set_fit e.cells e.policies e.compatible c.args.policy row (subst PolicyCompatible (sym c.to-row.ensures) (policy_fits c.in-Grant.locks)), tt),
-      ),
-    )
+    let row = c.to_row.result in
+    record {
+      celled = e.celled;
+      policed = length-set e.policies c.args.policy row ∙ e.policed;
+      compatible = policy_set_fit e.cells e.policies e.compatible c.args.policy row (subst PolicyCompatible (sym c.to_row.ensures) (policy_fits c.in-Grant.locks));
+    }
 
 pub returns-in-Wait : goal.returns-in-Wait
 returns-in-Wait c =
@@ -42,6 +41,6 @@ returns-in-Grant c =
     let before : PolicyRow → Type 0 = λ row. PolicyGranted (policy_holds row) c.args.mode c.args.slot.at (policy_holds c.in-Grant.locks.row) struck in
     let after : PolicyRow → Type 0 = λ row. PolicyGranted (policy_holds (get_or e.policies c.args.policy no_policy)) c.args.mode c.args.slot.at (policy_holds row) struck in (
       lt-ltb c.args.policy 64 found.0,
-      policy_granted e.cells e.policies c.args.slot.at c.args.mode c.args.policy c.to-row.result struck (held c.release.new.self) at
-          (subst after (sym c.to-row.ensures) (subst before found.1 c.in-Grant.ensures)) c.release.ensures,
+      policy_granted e.cells e.policies c.args.slot.at c.args.mode c.args.policy c.to_row.result struck (held c.release.new.self) at
+          (subst after (sym c.to_row.ensures) (subst before found.1 c.in-Grant.ensures)) c.release.ensures,
     )

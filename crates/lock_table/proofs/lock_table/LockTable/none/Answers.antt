@@ -1,14 +1,18 @@
-use Rattle.std.proofs.Common.{◌≡◌, sym, refl, ap, ◌∙◌, subst}
+use Rattle.std.proofs.Common.{sym, refl, ap, ◌∙◌, subst}
 use Rattle.locking.specs.CellLocks.{cell_holds, CellCompatible}
 use Rattle.locking.specs.PolicyLocks.{policy_holds, PolicyCompatible}
 use Rattle.lock_table.proofs.Tables.{cell_fits, policy_fits, alike_fit, alike_held}
 use Rattle.lock_table.proofs.lock_table.LockTable.none.Goals as goal
 
-pub invariant-of-result : goal.invariant-of-result
-invariant-of-result c =
-    (refl, (refl, (∣ alike_fit c.to-row-cell.result c.to-row-policy.result (subst CellCompatible (sym c.to-row-cell.ensures) (cell_fits c.none.result)) (subst PolicyCompatible (sym c.to-row-policy.ensures) (policy_fits c.none-2.result)) ∣₁, tt)))
+pub invariant_of-result : goal.invariant_of-result
+invariant_of-result c =
+    record {
+      celled = refl;
+      policed = refl;
+      compatible = ∣ alike_fit c.to_row-cell.result c.to_row-policy.result (subst CellCompatible (sym c.to_row-cell.ensures) (cell_fits c.none.result)) (subst PolicyCompatible (sym c.to_row-policy.ensures) (policy_fits c.none-2.result)) ∣₁;
+    }
 
 pub returns : goal.returns
 returns c =
-    alike_held c.to-row-cell.result c.to-row-policy.result
-    (λ m k. ap (λ row. cell_holds row m k) c.to-row-cell.ensures ∙ c.none.ensures m k) (λ m k. ap (λ row. policy_holds row m k) c.to-row-policy.ensures ∙ c.none-2.ensures m k)
+    alike_held c.to_row-cell.result c.to_row-policy.result
+    (λ m k. ap (λ row. cell_holds row m k) c.to_row-cell.ensures ∙ c.none.ensures m k) (λ m k. ap (λ row. policy_holds row m k) c.to_row-policy.ensures ∙ c.none-2.ensures m k)

@@ -3,4 +3,4 @@ use Rattle.lock_table.proofs.Tables.{policy_found}
 use Rattle.lock_table.proofs.lock_table.LockTable.policy_locks.Goals as goal
 
 pub returns : goal.returns
-returns c = policy_found c.args.self.now.compatible c.args.policy _ c.from-row.result (omega arith) c.args.self.now.policed c.from-row.ensures
+returns c = policy_found c.args.self.now.compatible c.args.policy _ c.from_row.result (omega arith) c.args.self.now.policed c.from_row.ensures

@@ -1,9 +1,0 @@
-// The engine of a day: transactions on two lent stores, under an order of rights and a list of policies.
-mod acquired;
-mod action;
-mod apply;
-mod engine;
-mod standing;
-mod tables;
-
-pub use engine::Engine;

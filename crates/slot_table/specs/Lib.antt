@@ -1,5 +1,0 @@
-pub mod Slots
-pub mod Tables
-pub mod Finds
-pub mod Edits
-pub mod Lowest

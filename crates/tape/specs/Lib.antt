@@ -1,2 +1,0 @@
-pub mod Runs
-pub mod FourCells

@@ -1,6 +1,0 @@
-// A transaction by token: a program that opens one cannot forget to end it, nor end it twice.
-mod adding;
-mod token;
-
-pub use adding::add_to_cell;
-pub use token::Token;
