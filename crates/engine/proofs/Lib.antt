@@ -1,0 +1,10 @@
+pub mod Slots
+pub mod Verdicts
+pub mod Counts
+pub mod Strikes
+pub mod Views
+pub mod Judging
+pub mod Applying
+pub mod Calls
+pub mod Stepping
+pub mod Acting

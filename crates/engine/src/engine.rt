@@ -1,0 +1,23 @@
+// The engine holds the two stores that it was lent, an order of rights, the policies and its tables.
+ghost use Rattle.std.specs.Prelude.{◌≤◌, length};
+
+use crate::tables::Tables;
+use protocol::Policy;
+
+mod calls;
+mod judging;
+mod run;
+mod views;
+
+#[derive(Drop)]
+pub struct Engine<'a, 'o, 'p, C, R, O> {
+    cells: &'a mut C,
+    rights: &'a mut R,
+    order: &'o O,
+    policies: &'p [Policy],
+    // So many cells of the store are the engine's: all, or none where set-up refused.
+    size: usize,
+    tables: Tables,
+    ghost few_cells: { size ≤ 256 },
+    ghost few_policies: { length policies.now ≤ 64 },
+}

@@ -1,0 +1,5 @@
+pub mod Slots
+pub mod Tables
+pub mod Finds
+pub mod Edits
+pub mod Lowest

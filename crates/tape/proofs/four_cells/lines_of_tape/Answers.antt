@@ -1,0 +1,24 @@
+use Rattle.std.proofs.Common.{◌≡◌, ◌∙◌}
+use Rattle.std.proofs.lemmas.Result.{err_from_is_err_and}
+use Rattle.records.specs.Tapes.{tape_of}
+use Rattle.tape.proofs.Fronts.{cut}
+use Rattle.tape.proofs.four_cells.lines_of_tape.Goals as goal
+
+pub returns-in_err-length : goal.returns-in_err-length
+returns-in_err-length c =
+    let p = err_from_is_err_and c.from_residual-in_err-length.result c.from_residual-in_err-length.ensures.1 in
+    rw p.1 tt
+
+pub returns : goal.returns
+returns c =
+    let told = c.in_ok-length.ensures in
+    let ran = told.1.ran in
+    record {
+      answers = told.1.answers;
+      evening = told.0;
+      records_are_requests = ran.records_are_requests;
+      day_done = ran.day_done;
+      lines_are_answers = c.truncate.ensures.items
+          ∙ cut told.1.answers (tape_of c.args.tape.now).fault _ c.in_ok-length.length c.in_ok-lines.lines.len c.run_on_four_cells.new.buffer _ told.1.length_answered ran.buffer_after
+          (c.run_on_four_cells.auto.buffer ∙ c.as_mut_slice.ensures.len);
+    }

@@ -1,0 +1,11 @@
+// A tape of records, run as a day on an engine, with a line for each answer.
+#![tactic(auto)]
+
+mod error;
+mod four_cells;
+mod run;
+mod writing;
+
+pub use error::TapeError;
+pub use four_cells::lines_of_tape;
+pub use run::run_tape;
