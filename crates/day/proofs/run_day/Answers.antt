@@ -1,4 +1,4 @@
-use Rattle.std.proofs.Common.{◌≡◌, take, sym, refl, ap, ◌∙◌, ap₂, rules}
+use Rattle.std.proofs.Common.{◌≡◌, take, sym, ap, ◌∙◌, ap₂, rules}
 use Rattle.serial.specs.Words.{Laws}
 use Rattle.serial.specs.OneDay.{morning}
 use Rattle.serial.proofs.Laws.{setup_laws}

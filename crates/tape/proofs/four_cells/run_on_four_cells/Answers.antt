@@ -1,7 +1,7 @@
-use Rattle.std.proofs.Common.{◌≡◌, ℕ, List, subst, ap₂}
+use Rattle.std.proofs.Common.{ℕ, List, subst, ap₂}
 use Rattle.serial.specs.Words.{Store}
 use Rattle.tape.specs.Runs.{RunsTape}
-use Rattle.tape.specs.FourCells.{four_cells_setup, four_cells_lists}
+use Rattle.tape.specs.FourCells.{four_cells_setup}
 use Rattle.tape.proofs.four_cells.run_on_four_cells.Goals as goal
 
 pub returns : goal.returns

@@ -1,4 +1,4 @@
-use Rattle.std.proofs.Common.{◌≡◌, sym, ◌∙◌, arith}
+use Rattle.std.proofs.Common.{sym}
 use Rattle.tape.proofs.Whole.{all_made}
 use Rattle.tape.proofs.run.answer_all.Goals as goal
 
