@@ -1,11 +1,14 @@
 -- The set-up of four cells, and what its lines say.
-use Rattle.std.specs.Prelude.{◌≡◌, ℕ, List, [], ◌∷◌}
+use Rattle.std.specs.Prelude.{◌≡◌, ℕ, ◌<◌, List, [], ◌∷◌, length}
+use Rattle.protocol.specs.Refusals.{refusal_number}
 use Rattle.protocol.specs.declared.answer.Answer.{Answer}
 use Rattle.protocol.specs.declared.policy.Object.TheVariants.{OfCell, OfPolicy}
 use Rattle.rights.specs.Orders.{vector_right, vector_joined, vector_allows}
 use Rattle.records.specs.Tapes.{tape_of, ReadsTape}
 use Rattle.serial.specs.Words.{Setup, Store, setup_of}
 use Rattle.serial.specs.OneDay.{DayDone}
+use Rattle.tape.specs.declared.error.TapeError.{TapeError}
+use Rattle.tape.specs.declared.error.TapeError.TheVariants.{OutOfMemory, SetUp, Lines}
 use Rattle.tape.specs.Runs.{tape_lines}
 
 abbrev pub four_cells_setup : Setup
@@ -22,3 +25,17 @@ pub record Lists (tape lines : List ℕ) : Type 0 where
   pub records_are_requests : ReadsTape tape (tape_of tape)
   pub day_done : DayDone four_cells_setup four_cells_lists evening (tape_of tape).requests answers
   pub lines_are_answers : lines ≡ tape_lines answers (tape_of tape).fault
+
+-- The same day was worked, and its lines exceed the buffer.
+pub record TooLong (tape : List ℕ) : Type 0 where
+  pub answers : List Answer
+  pub evening : Store
+  pub records_are_requests : ReadsTape tape (tape_of tape)
+  pub day_done : DayDone four_cells_setup four_cells_lists evening (tape_of tape).requests answers
+  pub lines_exceed : 170000 < length (tape_lines answers (tape_of tape).fault)
+
+-- Why there are no lines. Set-up never refuses.
+abbrev pub FailsBy : List ℕ → TapeError → Type 0
+FailsBy tape OutOfMemory = Unit {0}
+FailsBy tape (SetUp f) = ⊥
+FailsBy tape (Lines f) = (refusal_number f ≡ 12) × TooLong tape

@@ -1,8 +1,8 @@
 // The set-up on which daytape runs a tape: four cells at 0, the vector order, and two policies.
-ghost use Rattle.std.specs.Prelude.{◌≡◌, ℕ, IfOk};
+ghost use Rattle.std.specs.Prelude.{◌≡◌, ℕ, IfOk, IfErr};
 ghost use Rattle.serial.specs.Words.{Store};
 ghost use Rattle.tape.specs.Runs.{RunsTape};
-ghost use Rattle.tape.specs.FourCells.{four_cells_setup, four_cells_lists, Lists};
+ghost use Rattle.tape.specs.FourCells.{four_cells_setup, four_cells_lists, Lists, FailsBy};
 
 use crate::error::TapeError;
 use crate::run::run_tape;
@@ -41,7 +41,8 @@ fn run_on_four_cells(heap: Global, tape: &[u8], buffer: &mut [u8]) -> Result<usi
 
 // The lines that daytape prints for a tape. The longest line is `S 65535 65535` with its line feed, 14 bytes, and a tape has at most 12,000 records.
 pub fn lines_of_tape(heap: Global, tape: &[u8]) -> Result<Vec<u8>, TapeError>
-    ensures { IfOk result (λ lines. Lists tape.now lines.items) }
+    ensures lines { IfOk result (λ lines. Lists tape.now lines.items) }
+    ensures fails { IfErr result (FailsBy tape.now) }
 {
     let mut lines = vec![in heap; 0; 170_000]?;
     let length = run_on_four_cells(heap, tape, lines.as_mut_slice())?;

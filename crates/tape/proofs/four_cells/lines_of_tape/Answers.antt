@@ -1,16 +1,18 @@
 use Rattle.std.proofs.Common.{◌∙◌}
 use Rattle.std.proofs.lemmas.Result.{err_from_is_err_and}
 use Rattle.records.specs.Tapes.{tape_of}
+use Rattle.tape.proofs.Failing.{fails_by}
 use Rattle.tape.proofs.Fronts.{cut}
 use Rattle.tape.proofs.four_cells.lines_of_tape.Goals as goal
 
 pub returns-in_err-length : goal.returns-in_err-length
 returns-in_err-length c =
     let p = err_from_is_err_and c.from_residual-in_err-length.result c.from_residual-in_err-length.ensures.1 in
-    rw p.1 tt
+    let told = c.in_err-length.ensures in
+    rw (p.1, p.2) (record { lines = tt; fails = fails_by c.args.tape.now _ _ told.0 _ (c.as_mut_slice.ensures.len ∙ c.in_ok-lines.ensures.len) told.1 })
 
-pub returns : goal.returns
-returns c =
+pub returns-clause-lines : goal.returns-clause-lines
+returns-clause-lines c =
     let told = c.in_ok-length.ensures in
     let ran = told.1.ran in
     record {
