@@ -2,7 +2,7 @@
 use crate::refusal::Refusal;
 use crate::request::TransactionId;
 
-#[derive(Clone, Copy)]
+#[derive(Clone, Copy, PartialEq, Eq, Debug)]
 pub enum Answer {
     Granted(u32),
     Refused(Refusal),

@@ -5,54 +5,40 @@ ghost use Rattle.protocol.specs.Refusals.{refusal_number};
 #[derive(Clone, Copy, PartialEq, Eq, Debug)]
 pub enum Refusal {
     // As many transactions as a day has numbers for have been opened.
-    TooManyOpened,
+    TooManyOpened = 1,
     // Every slot for a transaction is taken.
-    NoFreeSlot,
+    NoFreeSlot = 2,
     // No open or aborted transaction has this number.
-    NoSuchTransaction,
+    NoSuchTransaction = 3,
     // There is no such position, cell or policy.
-    Absent,
+    Absent = 4,
     // The policy is another subject's.
-    OtherSubject,
+    OtherSubject = 5,
     // No deployed policy permits it.
-    NotPermitted,
+    NotPermitted = 6,
     // One change more than a workspace holds.
-    TooManyChanges,
+    TooManyChanges = 7,
     // The code is no right.
-    NotARight,
+    NotARight = 8,
     // What is to be written exceeds the buffer.
-    ExceedsBuffer,
+    ExceedsBuffer = 12,
     // More numbers, cells or policies than there is room for.
-    TooMany,
+    TooMany = 14,
     // A policy list that does not fit the rights store, the cells or itself.
-    BadPolicies,
+    BadPolicies = 15,
     // A stored code that is no right.
-    BadRights,
+    BadRights = 16,
     // A threshold outside 1 to 100.
-    BadThreshold,
+    BadThreshold = 17,
     // Bytes that hold no log.
-    BadLog,
+    BadLog = 18,
 }
 
 impl Refusal {
+    // By name, since a `u8` does not say that it is a refusal.
     pub fn number(self) -> u8
         ensures { result ≡ refusal_number self }
     {
-        match self {
-            Refusal::TooManyOpened => 1,
-            Refusal::NoFreeSlot => 2,
-            Refusal::NoSuchTransaction => 3,
-            Refusal::Absent => 4,
-            Refusal::OtherSubject => 5,
-            Refusal::NotPermitted => 6,
-            Refusal::TooManyChanges => 7,
-            Refusal::NotARight => 8,
-            Refusal::ExceedsBuffer => 12,
-            Refusal::TooMany => 14,
-            Refusal::BadPolicies => 15,
-            Refusal::BadRights => 16,
-            Refusal::BadThreshold => 17,
-            Refusal::BadLog => 18,
-        }
+        self as u8
     }
 }
