@@ -1,10 +1,10 @@
 -- The bytes while the listed numbers are copied into the base, and what a checkpoint means.
-use Rattle.std.proofs.Common.{◌≡◌, ℕ, ◌+◌, ◌-◌, ◌*◌, ◌<◌, ◌≤◌, List, [], ◌∷◌, ◌++◌, length, get_or, take, drop, set, sym, ap, ◌∙◌, append_assoc, arith}
+use Rattle.std.proofs.Common.{◌≡◌, ℕ, ◌+◌, ◌-◌, ◌*◌, ◌/◌, ◌<◌, ◌≤◌, List, [], ◌∷◌, ◌++◌, length, get_or, take, drop, set, sym, ap, ◌∙◌, append_assoc, arith, length-append, length-drop}
 use Rattle.std.specs.List.{flat_map}
 use Rattle.std.proofs.lemmas.List.{drop_at, drop-drop, drop_more, ext_get_or, get_or-append_right, get_or_at, get_or-drop, flat_map_more, length-take-le, set_at, take_all, take_at, take_more}
 use Rattle.protocol.specs.Bytes.{four_bytes}
-use Rattle.log_store.specs.Log.{checkpoint, listed, log_list, places, spliced, used}
-use Rattle.log_store.proofs.LogLaws.{length_listed, length_log, listed_none, listed_same_at, used_from_is}
+use Rattle.log_store.specs.Log.{checkpoint, listed, log_list, places, spliced, used, used_from}
+use Rattle.log_store.proofs.LogLaws.{length_listed, length_log, listed_none, listed_same_at, used_from_is, used_from_same}
 use Rattle.log_store.proofs.Numbers.{length_numbers, numbers_at}
 
 -- the first i numbers copied
@@ -22,8 +22,17 @@ module _ (n : ℕ) (t : List ℕ) (i : ℕ) (h : i ≤ n) where
       let e : 4 * i + (j - 4 * i) ≡ j = omega arith in
       get_or-append_right _ (drop (4 * i) t) (4 * i) j 0 length_front l ∙ get_or-drop (4 * i) t (j - 4 * i) 0 ∙ ap (λ m. get_or t m 0) e
 
-pub copied_at : (n : ℕ) (t : List ℕ) (i : ℕ) → i < n → get_or (listed n (copied n t i) (used n t)) i 0 ≡ get_or (log_list n t) i 0
-copied_at n t i h = listed_same_at n t (copied n t i) (used n t) i h (λ j a _. copied_rest n t i (omega arith) j a)
+  length_copied : 4 * n ≤ length t → length (copied n t i) ≡ length t
+  length_copied l = let size = length_front in simp (length-append, length-drop) (omega arith)
+
+  copied_used : 4 * n ≤ length t → used n (copied n t i) ≡ used n t
+  copied_used l =
+      ap (λ m. used_from ((m - 4 * n) / 9) (4 * n) (copied n t i)) (length_copied l) ∙ used_from_same (places n t) (4 * n) t (copied n t i) (λ j k. copied_rest j (omega arith))
+
+pub copied_at : (n : ℕ) (t : List ℕ) (i : ℕ) → i < n → 4 * n ≤ length t → get_or (log_list n (copied n t i)) i 0 ≡ get_or (log_list n t) i 0
+copied_at n t i h l =
+    let u = copied n t i in
+    ap (λ k. get_or (listed n u k) i 0) (copied_used n t i (omega arith) l) ∙ listed_same_at n t u (used n t) i h (λ j a _. copied_rest n t i (omega arith) j a)
 
 pub copied_more : (n : ℕ) (t : List ℕ) (i x : ℕ) → i < n → x ≡ get_or (log_list n t) i 0 → spliced (copied n t i) (4 * i) (four_bytes x) ≡ copied n t (i + 1)
 copied_more n t i x h new =

@@ -4,3 +4,4 @@ pub mod LogLaws
 pub mod Numbers
 pub mod Sizes
 pub mod Sound
+pub mod Places

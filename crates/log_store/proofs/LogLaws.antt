@@ -1,8 +1,8 @@
 -- How many places of a log are used, and what the fields make of the numbers.
-use Rattle.std.proofs.Common.{◌≡◌, ℕ, zero, suc, ◌+◌, ◌-◌, ◌*◌, ◌<◌, ◌≤◌, true, false, cond, eqb, List, length, get_or, set, sym, ◌∙◌, subst, ⊎_elim, add-one, arith, length-set, get_or-set_other, get_or-set_same}
+use Rattle.std.proofs.Common.{◌≡◌, ℕ, zero, suc, ◌+◌, ◌*◌, ◌<◌, ◌≤◌, true, cond, eqb, List, length, get_or, set, sym, refl, ◌∙◌, subst, ⊎_elim, add-one, arith, length-set, get_or-set_other, get_or-set_same}
 use Rattle.std.proofs.lemmas.List.FromFn.{length-map-range_with_len, get_or-map-range_with_len}
 use Rattle.std.proofs.lemmas.List.{ext_get_or}
-use Rattle.std.proofs.lemmas.Bool.{cond-true, cond-false, eq-eqb, ne_eqb, cases_eq, and_from, and_left, and_right}
+use Rattle.std.proofs.lemmas.Bool.{cond-true, cond-false, eq-eqb, ne_eqb, cases_eq, and_from}
 use Rattle.protocol.specs.Bytes.{two_at, four_at}
 use Rattle.log_store.specs.Log.{all_fields, field_at, used_from, listed, place, used, log_list}
 use Rattle.log_store.proofs.Numbers.{four_same, two_same}
@@ -38,6 +38,14 @@ used_from_tags (suc f) p t (suc j) l e =
     (λ ne. let go = used_goes f p t ne in used_from_tags f (p + 9) t j (omega arith) (rw (later_place p j) at e))
     (cases_eq (get_or t p 0) 0)
 
+-- that number depends on no byte before the places
+pub used_from_same : (f p : ℕ) (t u : List ℕ) → ((j : ℕ) → p ≤ j → get_or u j 0 ≡ get_or t j 0) → used_from f p u ≡ used_from f p t
+used_from_same zero p t u same = refl
+used_from_same (suc f) p t u same =
+    let tag = same p (omega arith) in
+    let rest = used_from_same f (p + 9) t u (λ j l. same j (omega arith)) in
+    cc
+
 pub length_listed : (n : ℕ) (t : List ℕ) (k : ℕ) → length (listed n t k) ≡ n
 length_listed n t zero = length-map-range_with_len (λ i. four_at t (4 * i)) 0 n
 length_listed n t (suc k) = length-set (listed n t k) _ _ ∙ length_listed n t k
@@ -49,7 +57,7 @@ length_log n t = length_listed n t (used n t)
 pub listed_none : (n : ℕ) (t : List ℕ) (i : ℕ) → i < n → get_or (listed n t 0) i 0 ≡ four_at t (4 * i)
 listed_none n t i h = get_or-map-range_with_len (λ j. four_at t (4 * j)) 0 n i i 0 h (omega arith)
 
-listed_more : (n : ℕ) (t : List ℕ) (k i : ℕ) → i < n → get_or (listed n t (suc k)) i 0 ≡ cond (eqb (two_at t (place n k + 3)) i) (four_at t (place n k + 5)) (get_or (listed n t k) i 0)
+pub listed_more : (n : ℕ) (t : List ℕ) (k i : ℕ) → i < n → get_or (listed n t (suc k)) i 0 ≡ cond (eqb (two_at t (place n k + 3)) i) (four_at t (place n k + 5)) (get_or (listed n t k) i 0)
 listed_more n t k i h =
     let ns = listed n t k in
     let q = two_at t (place n k + 3) in
@@ -59,19 +67,6 @@ listed_more n t k i h =
     (λ (e : q ≡ i). let l : q < length ns = omega arith in subst (λ x. get_or (set ns q v) x 0 ≡ v) e (get_or-set_same ns q v 0 l) ∙ sym (cond-true _ _ _ (eq-eqb q i e)))
     (λ ne. get_or-set_other ns q i v 0 (λ e. ne (sym e)) ∙ sym (cond-false _ _ _ (ne_eqb q i ne)))
     (cases_eq q i)
-
--- a field of the position, and one of another position
-pub listed_hit : (n : ℕ) (t : List ℕ) (k i : ℕ) → i < n → 0 < k → two_at t (place n (k - 1) + 3) ≡ i → get_or (listed n t k) i 0 ≡ four_at t (place n (k - 1) + 5)
-listed_hit n t zero i h l e = absurd (omega arith)
-listed_hit n t (suc k) i h l e =
-    let one : suc k - 1 ≡ k = omega arith in
-    listed_more n t k i h ∙ cond-true _ _ _ (eq-eqb _ _ (rw one at e)) ∙ rw one
-
-pub listed_miss : (n : ℕ) (t : List ℕ) (k i : ℕ) → i < n → 0 < k → (two_at t (place n (k - 1) + 3) ≡ i → ⊥) → get_or (listed n t k) i 0 ≡ get_or (listed n t (k - 1)) i 0
-listed_miss n t zero i h l ne = absurd (omega arith)
-listed_miss n t (suc k) i h l ne =
-    let one : suc k - 1 ≡ k = omega arith in
-    listed_more n t k i h ∙ cond-false _ _ _ (ne_eqb _ _ (rw one at ne)) ∙ rw one
 
 -- The list depends on the base and the used places alone, and the number at a position on no base number before it.
 pub listed_same_at : (n : ℕ) (t u : List ℕ) (k i : ℕ) → i < n → ((j : ℕ) → 4 * i ≤ j → j < place n k → get_or u j 0 ≡ get_or t j 0) → get_or (listed n u k) i 0 ≡ get_or (listed n t k) i 0
@@ -90,14 +85,6 @@ listed_same n t u k same =
     let b = length_listed n t k in
     ext_get_or 0 (listed n u k) (listed n t k) (a ∙ sym b) (λ i l. listed_same_at n t u k i (omega arith) (λ j _ h. same j h))
 
--- fields up to a place, and one place that has none
+-- fields up to a place, and one more
 pub all_fields_more : (n : ℕ) (t : List ℕ) (k : ℕ) → all_fields n t k ≡ true → field_at n t (place n k) ≡ true → all_fields n t (k + 1) ≡ true
 all_fields_more n t k all here = rw add-one (and_from _ _ here all)
-
-pub all_fields_fails : (n : ℕ) (t : List ℕ) (k m : ℕ) → field_at n t (place n k) ≡ false → k < m → all_fields n t m ≡ false
-all_fields_fails n t k zero here l = absurd (omega arith)
-all_fields_fails n t k (suc m) here l =
-    ⊎_elim
-    (λ (e : k ≡ m). and_left _ _ (subst (λ x. field_at n t (place n x) ≡ false) e here))
-    (λ ne. and_right (field_at n t (place n m)) _ (all_fields_fails n t k m here (omega arith)))
-    (cases_eq k m)

@@ -3,6 +3,7 @@
 -- The log ends at the first place whose tag is 0, or where fewer than nine bytes are left.
 use Rattle.std.specs.Prelude.{ℕ, zero, suc, ◌+◌, ◌-◌, ◌*◌, ◌/◌, Bool, true, cond, ◌&&◌, List, [], ◌∷◌, ◌++◌, map, length, take, drop, ◌==◌, nat_le, nat_lt, slice_index, slice_set}
 use Rattle.std.specs.List.{range_with_len, flat_map}
+use Rattle.std.specs.Simd.{first_chunks}
 use Rattle.protocol.specs.Bytes.{two_bytes, four_bytes, two_at, four_at, field_bytes}
 use Rattle.protocol.specs.Refusals.{Outcome, answered, refused}
 
@@ -12,6 +13,10 @@ places n t = (length t - 4 * n) / 9
 
 abbrev pub place : ℕ → ℕ → ℕ
 place n k = 4 * n + 9 * k
+
+-- The bytes of each place.
+abbrev pub place_list : ℕ → List ℕ → List (List ℕ)
+place_list n t = first_chunks 9 (places n t) (drop (4 * n) t)
 
 -- How many of f places from p on are used: those before the first whose tag is 0.
 abbrev pub used_from : ℕ → ℕ → List ℕ → ℕ

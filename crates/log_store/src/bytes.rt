@@ -1,14 +1,7 @@
 // Numbers in bytes, the high byte first.
 ghost use Rattle.std.specs.Prelude.{◌≡◌, ◌+◌, ◌≤◌, length};
-ghost use Rattle.protocol.specs.Bytes.{two_at, four_at};
+ghost use Rattle.protocol.specs.Bytes.{four_at};
 ghost use Rattle.log_store.specs.Log.{spliced};
-
-pub(crate) fn number16(bytes: &[u8], at: usize) -> u16
-    requires { at + 2 ≤ length bytes.now }
-    ensures { result ≡ two_at bytes.now at }
-{
-    u16::from_be_bytes([bytes[at], bytes[at + 1]])
-}
 
 pub(crate) fn number32(bytes: &[u8], at: usize) -> u32
     requires { at + 4 ≤ length bytes.now }

@@ -6,8 +6,9 @@
 #![tactic(auto)]
 
 mod bytes;
+mod held;
 mod log;
 mod store;
 mod writes;
 
-pub use store::LogStore;
+pub use held::LogStore;

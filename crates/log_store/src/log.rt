@@ -1,68 +1,127 @@
 // What the bytes of a log mean, and whether they hold one.
-ghost use Rattle.std.specs.Prelude.{◌≡◌, ◌+◌, ◌*◌, ◌<◌, ◌≤◌, length, slice_index};
-ghost use Rattle.log_store.specs.Log.{all_fields, field_at, fits, holds_log, listed, place, used};
+ghost use Rattle.std.specs.Prelude.{◌≡◌, ◌*◌, ◌<◌, ◌≤◌, ◌==◌, not, length, reverse, slice_index, take};
+ghost use Rattle.std.specs.List.{find, list_all, prefix_len};
+ghost use Rattle.std.specs.Option.{option_map};
+ghost use Rattle.log_store.specs.Log.{all_fields, field_at, fits, holds_log, log_end, log_list, place_list, used};
+ghost use Rattle.protocol.specs.Bytes.{two_at, four_at};
 
-use crate::bytes::{number16, number32};
+use crate::bytes::number32;
 
 pub(crate) const TAG: u8 = 0x43;
 
-// How many places are used.
-pub(crate) fn used_places(bytes: &[u8], count: usize) -> usize
-    requires { 4 * count ≤ length bytes.now }
-    ensures used { result ≡ used count bytes.now }
-    ensures within { place count result ≤ length bytes.now }
+// A place of the log, or a field where it is used.
+pub(crate) type Place = [u8; 9];
+
+// A place has nine bytes by its type, so that its numbers are read with no bound to ask for; `number32` is for the base.
+fn position_of(field: &Place) -> u16
+    ensures { result ≡ two_at field.now 3 }
 {
-    let places = (bytes.len() - 4 * count) / 9;
-    for k in 0..places {
-        if bytes[4 * count + 9 * k] == 0 {
-            return k;
-        }
-    }
-    places
+    u16::from_be_bytes([field[3], field[4]])
 }
 
-// The number at a position after the first `fields` fields. The last field of the position counts, so the search goes backward.
-pub(crate) fn number_at(bytes: &[u8], count: usize, fields: usize, position: usize) -> u32
-    requires { (position < count) × (place count fields ≤ length bytes.now) }
-    ensures { result ≡ slice_index (listed count bytes.now fields) position }
+fn value_of(field: &Place) -> u32
+    ensures { result ≡ four_at field.now 5 }
 {
-    for k in (0..fields).rev() {
-        let at = 4 * count + 9 * k;
-        if number16(bytes, at + 3) as usize == position {
-            return number32(bytes, at + 5);
+    u32::from_be_bytes([field[5], field[6], field[7], field[8]])
+}
+
+fn is_field(place: &Place, count: usize) -> bool
+    ensures { result ≡ field_at count place.now 0 }
+{
+    place[0] == TAG
+        && u16::from_be_bytes([place[1], place[2]]) == 6
+        && (position_of(place) as usize) < count
+}
+
+// How many places stand before the first whose tag is 0.
+fn count_used(places: &[Place]) -> usize
+    ensures { result ≡ prefix_len (λ x. not (slice_index x 0 == 0)) places.now }
+{
+    places.iter().take_while(|place| place[0] != 0).count()
+}
+
+fn all_fields(places: &[Place], count: usize) -> bool
+    ensures { result ≡ list_all (λ x. field_at count x 0) places.now }
+{
+    places.iter().all(|place| is_field(place, count))
+}
+
+fn last_of(fields: &[Place], position: usize) -> Option<&Place>
+    ensures { option_map (λ x. x.now) result ≡ find (λ x. two_at x 3 == position) (reverse fields.now) }
+{
+    fields
+        .iter()
+        .rev()
+        .find(|field| position_of(field) as usize == position)
+}
+
+// Bytes with room for `count` base numbers.
+#[derive(Clone, Copy)]
+pub(crate) struct Log<'a> {
+    bytes: &'a [u8],
+    count: usize,
+    ghost in_bytes: { 4 * count ≤ length bytes.now },
+}
+
+impl<'a> Log<'a> {
+    pub(crate) fn new(bytes: &'a [u8], count: usize) -> Log<'a>
+        requires { 4 * count ≤ length bytes.now }
+        ensures bytes { result.bytes.now ≡ bytes.now }
+        ensures count { result.count ≡ count }
+    {
+        Log { bytes, count }
+    }
+
+    fn places(&self) -> &'a [Place]
+        ensures { result.now ≡ place_list self.now.count self.now.bytes.now }
+    {
+        let (places, _) = self.bytes[4 * self.count..].as_chunks();
+        places
+    }
+
+    // The used places.
+    fn fields(&self) -> &'a [Place]
+        ensures { result.now ≡ take (used self.now.count self.now.bytes.now) (place_list self.now.count self.now.bytes.now) }
+    {
+        let places = self.places();
+        &places[..count_used(places)]
+    }
+
+    // Where the log ends.
+    pub(crate) fn end(&self) -> usize
+        ensures end { result ≡ log_end self.now.count self.now.bytes.now }
+        ensures within { result ≤ length self.now.bytes.now }
+    {
+        4 * self.count + 9 * self.fields().len()
+    }
+
+    // The value of the last field of the position, else its base number.
+    pub(crate) fn number(&self, position: usize) -> u32
+        requires { position < self.now.count }
+        ensures { result ≡ slice_index (log_list self.now.count self.now.bytes.now) position }
+    {
+        match last_of(self.fields(), position) {
+            Some(field) => value_of(field),
+            None => number32(self.bytes, 4 * position),
         }
     }
-    number32(bytes, 4 * position)
+
+    fn is_sound(&self) -> bool
+        ensures { result ≡ all_fields self.now.count self.now.bytes.now (used self.now.count self.now.bytes.now) }
+    {
+        all_fields(self.fields(), self.count)
+    }
 }
 
 // At most 256 numbers, with bytes for them and for one place.
-pub(crate) fn fits(bytes: &[u8], count: usize) -> bool
+fn fits(bytes: &[u8], count: usize) -> bool
     ensures { result ≡ fits count bytes.now }
 {
     count <= 256 && bytes.len() >= 4 * count + 9
 }
 
-fn is_field(bytes: &[u8], count: usize, at: usize) -> bool
-    requires { at + 9 ≤ length bytes.now }
-    ensures { result ≡ field_at count bytes.now at }
-{
-    bytes[at] == TAG && number16(bytes, at + 1) == 6 && (number16(bytes, at + 3) as usize) < count
-}
-
-fn all_fields(bytes: &[u8], count: usize, fields: usize) -> bool
-    requires { place count fields ≤ length bytes.now }
-    ensures { result ≡ all_fields count bytes.now fields }
-{
-    for k in 0..fields {
-        if !is_field(bytes, count, 4 * count + 9 * k) {
-            return false;
-        }
-    }
-    true
-}
-
 pub(crate) fn holds_log(bytes: &[u8], count: usize) -> bool
     ensures { result ≡ holds_log count bytes.now }
 {
-    fits(bytes, count) && all_fields(bytes, count, used_places(bytes, count))
+    fits(bytes, count) && Log::new(bytes, count).is_sound()
 }

@@ -5,16 +5,10 @@ ghost use Rattle.stores.specs.Lists.{write_at};
 ghost use Rattle.log_store.specs.Held.{bytes_after, bytes_of, lent_of, list_of};
 ghost use Rattle.log_store.specs.Log.{holds_log, log_check, log_of};
 
-use crate::log::{fits, holds_log, number_at, used_places};
-use crate::writes::write_number;
+use crate::held::LogStore;
+use crate::log::{Log, holds_log};
 use protocol::Refusal;
 use stores::Store;
-
-#[derive(Drop)]
-pub struct LogStore<'a> {
-    bytes: &'a mut [u8],
-    count: usize,
-}
 
 impl<'a> LogStore<'a> {
     // Refuses bytes that hold no log of `count` numbers.
@@ -37,6 +31,13 @@ impl<'a> LogStore<'a> {
         let count = if holds_log(bytes, count) { count } else { 0 };
         LogStore { bytes, count }
     }
+
+    pub(crate) fn log(&self) -> Log<'_>
+        ensures bytes { result.bytes.now ≡ bytes_of self.now }
+        ensures count { result.count ≡ self.now.count }
+    {
+        Log::new(self.bytes, self.count)
+    }
 }
 
 impl Store for LogStore<'_> {
@@ -44,23 +45,21 @@ impl Store for LogStore<'_> {
 
     ghost lent = { lent_of };
 
-    // No field of the struct can state that the count fits the lent bytes, so it is tested here: a number could else lie past their end.
+    #[tactic(auto, using(crate::proofs::LogLaws::length_log))]
     fn size(&self) -> usize {
-        if !fits(self.bytes, self.count) {
-            return 0;
-        }
         self.count
     }
 
+    #[tactic(auto, using(crate::proofs::LogLaws::length_log))]
     fn read(&self, at: usize) -> Result<u32, Refusal> {
-        let count = self.size();
-        if at >= count {
+        if at >= self.count {
             return Err(Refusal::Absent);
         }
-        Ok(number_at(self.bytes, count, used_places(self.bytes, count), at))
+        Ok(self.log().number(at))
     }
 
     // It promises more than any store does: the exact bytes, and that where they held a log of its count, they still do.
+    #[tactic(auto, using(crate::proofs::LogLaws::length_log))]
     fn write(&mut self, at: usize, value: u32) -> Result<(), Refusal>
         ensures answer { outcome result ≡ write_at (list_of self.old) at }
         ensures after { list_of self.new ≡ slice_set (list_of self.old) at value }
@@ -68,11 +67,10 @@ impl Store for LogStore<'_> {
         ensures bytes { bytes_of self.new ≡ bytes_after self.old at value }
         ensures sound { holds_log self.old.count (bytes_of self.old) ≡ true → holds_log self.new.count (bytes_of self.new) ≡ true }
     {
-        let count = self.size();
-        if at >= count {
+        if at >= self.count {
             return Err(Refusal::Absent);
         }
-        write_number(self.bytes, count, at as u16, value);
+        self.set(at as u16, value);
         Ok(())
     }
 }

@@ -1,11 +1,13 @@
 // What a write makes of the bytes.
-ghost use Rattle.std.specs.Prelude.{◌≡◌, ◌+◌, ◌*◌, ◌≤◌, length, slice_set};
+ghost use Rattle.std.specs.Prelude.{◌≡◌, ◌+◌, ◌*◌, ◌<◌, ◌≤◌, length, slice_set};
+ghost use Rattle.log_store.specs.Held.{bytes_of, lent_of, list_of};
 ghost use Rattle.log_store.specs.Log.{appended, checkpoint, log_end, log_field, log_list, with_room, written};
 
 use crate::bytes::put;
-use crate::log::{TAG, number_at, used_places};
+use crate::held::LogStore;
+use crate::log::{Log, Place, TAG};
 
-fn field(position: u16, value: u32) -> [u8; 9]
+fn field(position: u16, value: u32) -> Place
     ensures { result ≡ log_field position value }
 {
     let [p0, p1] = position.to_be_bytes();
@@ -27,39 +29,43 @@ fn append(bytes: &mut [u8], end: usize, position: u16, value: u32)
 
 // Copies every listed number into the base, and empties the log.
 fn checkpoint(bytes: &mut [u8], count: usize)
-    requires { 4 * count + 9 ≤ length bytes.old }
+    requires { 4 * count < length bytes.old }
     ensures bytes { bytes.new ≡ checkpoint count bytes.old }
     ensures list { log_list count bytes.new ≡ log_list count bytes.old }
 {
-    let fields = used_places(bytes, count);
+    // By index, since each number is read from the bytes that the loop writes.
     for i in 0..count {
-        let number = number_at(bytes, count, fields, i);
+        let number = Log::new(bytes, count).number(i);
         put(bytes, 4 * i, &number.to_be_bytes());
     }
     bytes[4 * count] = 0;
 }
 
-// Where the log ends, with a free place there: after a checkpoint where there was none.
-fn make_room(bytes: &mut [u8], count: usize) -> usize
-    requires { 4 * count + 9 ≤ length bytes.old }
-    ensures bytes { bytes.new ≡ with_room count bytes.old }
-    ensures list { log_list count bytes.new ≡ log_list count bytes.old }
-    ensures end { result ≡ log_end count bytes.new }
-    ensures free { result + 9 ≤ length bytes.new }
-{
-    let end = 4 * count + 9 * used_places(bytes, count);
-    if bytes.len() - end >= 9 {
-        return end;
+impl LogStore<'_> {
+    // Where the log ends, with a free place there: after a checkpoint where there was none.
+    fn make_room(&mut self) -> usize
+        requires { 0 < self.old.count }
+        ensures bytes { bytes_of self.new ≡ with_room self.old.count (bytes_of self.old) }
+        ensures list { list_of self.new ≡ list_of self.old }
+        ensures kept { lent_of self.new ≡ lent_of self.old }
+        ensures end { result ≡ log_end self.old.count (bytes_of self.new) }
+        ensures free { result + 9 ≤ length (bytes_of self.new) }
+    {
+        let end = self.log().end();
+        if self.bytes.len() - end >= 9 {
+            return end;
+        }
+        checkpoint(self.bytes, self.count);
+        4 * self.count
     }
-    checkpoint(bytes, count);
-    4 * count
-}
 
-pub(crate) fn write_number(bytes: &mut [u8], count: usize, position: u16, value: u32)
-    requires { 4 * count + 9 ≤ length bytes.old }
-    ensures bytes { bytes.new ≡ written count bytes.old position value }
-    ensures list { log_list count bytes.new ≡ slice_set (log_list count bytes.old) position value }
-{
-    let end = make_room(bytes, count);
-    append(bytes, end, position, value);
+    pub(crate) fn set(&mut self, position: u16, value: u32)
+        requires { position < self.old.count }
+        ensures bytes { bytes_of self.new ≡ written self.old.count (bytes_of self.old) position value }
+        ensures list { list_of self.new ≡ slice_set (list_of self.old) position value }
+        ensures kept { lent_of self.new ≡ lent_of self.old }
+    {
+        let end = self.make_room();
+        append(self.bytes, end, position, value);
+    }
 }

@@ -42,6 +42,7 @@ ladder_right code = nat_le code 100
 abbrev pub ladder_joined : ℕ → ℕ → ℕ
 ladder_joined a b = max a b
 
+-- The thresholds go as three numbers, and not as the order: the check has them before there is one, and the order's own type cites it.
 abbrev pub threshold : ℕ → ℕ → ℕ → Operation → ℕ
 threshold read write restrict Read = read
 threshold read write restrict Write = write

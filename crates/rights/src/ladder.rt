@@ -8,7 +8,7 @@ use crate::order::{Operation, RightsOrder};
 use protocol::Refusal;
 
 // The thresholds are private and in range, so that nobody has an order with others.
-#[derive(Clone, Copy)]
+#[derive(Clone, Copy, PartialEq, Eq, Debug)]
 pub struct LadderOrder {
     read: u32,
     write: u32,
@@ -19,11 +19,11 @@ pub struct LadderOrder {
 fn is_threshold(t: u32) -> bool
     ensures { result ≡ is_threshold t }
 {
-    1 <= t && t <= 100
+    (1..=100).contains(&t)
 }
 
 impl LadderOrder {
-    // Refuses thresholds outside 1 to 100.
+    // Refuses thresholds outside 1 to 100: three numbers, since there is no order yet to hold them.
     pub fn check(read: u32, write: u32, restrict: u32) -> Result<(), Refusal>
         ensures { outcome result ≡ ladder_check read write restrict }
     {
@@ -73,6 +73,8 @@ impl RightsOrder for LadderOrder {
         code <= 100
     }
 
+    // Join and permits test the codes in either order by themselves: the trait could do so only over two calls that promise nothing
+    // of codes that are no rights.
     fn join(&self, a: u32, b: u32) -> u32 {
         if self.is_right(a) && self.is_right(b) {
             a.max(b)

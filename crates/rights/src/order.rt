@@ -3,7 +3,7 @@ ghost use Rattle.std.specs.Prelude.{◌≡◌, ℕ, Bool, true, ◌||◌};
 ghost use Rattle.rights.specs.Orders.{join_of, permits_of};
 ghost use Rattle.rights.specs.declared.order.Operation.{Operation};
 
-#[derive(Clone, Copy)]
+#[derive(Clone, Copy, PartialEq, Eq, Debug)]
 pub enum Operation {
     // Operation 0: reads a cell or shows a policy.
     Read,

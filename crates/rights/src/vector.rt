@@ -5,9 +5,10 @@ ghost use Rattle.rights.specs.VectorLaws.{vector_join_is_right, vector_join_perm
 
 use crate::order::{Operation, RightsOrder};
 
-#[derive(Clone, Copy)]
+#[derive(Clone, Copy, PartialEq, Eq, Debug)]
 pub struct VectorOrder;
 
+// No discriminants of `Operation`: the weights are this order's own, and every order shares the enum.
 fn weight(operation: Operation) -> u32
     ensures { result ≡ weight operation }
 {

@@ -1,34 +1,22 @@
 -- From what set-up has checked to what the day's theorem asks.
-use Rattle.std.proofs.Common.{◌≡◌, ℕ, Bool, true, false, List, length, sym, refl, ◌∙◌}
-use Rattle.std.proofs.lemmas.Bool.{cond-true, cond-false, and_parts, leb-true, ltb-true, eqb-true}
-use Rattle.protocol.specs.Refusals.{answered, refused}
+use Rattle.std.proofs.Common.{◌≡◌, ℕ, Bool, true, List, length, sym, refl}
+use Rattle.std.proofs.lemmas.Bool.{and_parts, leb-true, ltb-true, eqb-true}
 use Rattle.protocol.specs.declared.policy.Object.{Object}
 use Rattle.protocol.specs.declared.policy.Object.TheVariants.{OfCell, OfPolicy}
 use Rattle.protocol.specs.declared.policy.Policy.{Policy}
 use Rattle.rights.specs.declared.order.Operation.{Operation}
 use Rattle.serial.specs.Words.{setup_of}
 use Rattle.serial.specs.History.{Present, Admitted}
-use Rattle.setup.specs.Admission.{every, small, present, paired, setup_check, first_state}
+use Rattle.std.specs.List.{list_all}
+use Rattle.setup.specs.Admission.{small, present, paired, first_state}
 use Rattle.setup.proofs.Every.{every_at, every_nth}
 
 module _ (right : ℕ → Bool) (cs rs : List ℕ) (ps : List Policy) where
-  pub too_many : small (length cs) (length ps) ≡ false → refused 14 ≡ setup_check right cs rs ps
-  too_many e = sym (cond-false _ _ _ e)
-
-  pub bad_policies : small (length cs) (length ps) ≡ true → paired (length cs) (length rs) ps ≡ false → refused 15 ≡ setup_check right cs rs ps
-  bad_policies e f = sym (cond-true _ _ _ e ∙ cond-false _ _ _ f)
-
-  pub bad_rights : small (length cs) (length ps) ≡ true → paired (length cs) (length rs) ps ≡ true → every right rs ≡ false → refused 16 ≡ setup_check right cs rs ps
-  bad_rights e f h = sym (cond-true _ _ _ e ∙ cond-true _ _ _ f ∙ cond-false _ _ _ h)
-
-  pub good : small (length cs) (length ps) ≡ true → paired (length cs) (length rs) ps ≡ true → every right rs ≡ true → answered tt ≡ setup_check right cs rs ps
-  good e f h = sym (cond-true _ _ _ e ∙ cond-true _ _ _ f ∙ cond-true _ _ _ h)
-
   is_there : (joined : ℕ → ℕ → ℕ) (allows : ℕ → Operation → Bool) (o : Object) → present (length cs) (length ps) o ≡ true → Present (setup_of right joined allows ps) (record { cells = cs; rights = rs }) o
   is_there joined allows (OfCell c) e = ltb-true c (length cs) e
   is_there joined allows (OfPolicy p) e = ltb-true p (length ps) e
 
-  pub admits : (joined : ℕ → ℕ → ℕ) (allows : ℕ → Operation → Bool) → small (length cs) (length ps) ≡ true → paired (length cs) (length rs) ps ≡ true → every right rs ≡ true → Admitted (setup_of right joined allows ps) (first_state cs rs)
+  pub admits : (joined : ℕ → ℕ → ℕ) (allows : ℕ → Operation → Bool) → small (length cs) (length ps) ≡ true → paired (length cs) (length rs) ps ≡ true → list_all right rs ≡ true → Admitted (setup_of right joined allows ps) (first_state cs rs)
   admits joined allows e f h = record {
     all_free = refl;
     none_opened = refl;

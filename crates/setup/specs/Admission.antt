@@ -1,14 +1,11 @@
 -- What set-up refuses, in its order, and the state in which a day begins.
-use Rattle.std.specs.Prelude.{ℕ, Bool, true, cond, ◌&&◌, List, [], ◌∷◌, length, replicate, ◌==◌, nat_le, nat_lt}
+use Rattle.std.specs.Prelude.{ℕ, Bool, cond, ◌&&◌, List, length, replicate, ◌==◌, nat_le, nat_lt, slice_index}
+use Rattle.std.specs.List.{list_all}
 use Rattle.protocol.specs.Refusals.{Outcome, answered, refused}
 use Rattle.protocol.specs.declared.policy.Object.{Object}
 use Rattle.protocol.specs.declared.policy.Object.TheVariants.{OfCell, OfPolicy}
 use Rattle.protocol.specs.declared.policy.Policy.{Policy}
 use Rattle.serial.specs.Model.{State, free}
-
-unfoldable pub every : {A : Type 0} → (A → Bool) → List A → Bool
-every p [] = true
-every p (x ∷ xs) = p x && every p xs
 
 -- At most 256 cells and 64 policies
 abbrev pub small : ℕ → ℕ → Bool
@@ -21,13 +18,17 @@ present cells policies (OfPolicy p) = nat_lt p policies
 
 -- As many policies as rights, and every policy's object is there
 abbrev pub paired : ℕ → ℕ → List Policy → Bool
-paired cells rights policies = length policies == rights && every (λ p. present cells (length policies) p.object) policies
+paired cells rights policies = length policies == rights && list_all (λ p. present cells (length policies) p.object) policies
+
+-- A right is stored at the position.
+abbrev pub stored : (ℕ → Bool) → List ℕ → ℕ → Bool
+stored right rights at = nat_lt at (length rights) && right (slice_index rights at)
 
 -- By which codes are rights, the cells, the stored rights and the policies
 abbrev pub setup_check : (ℕ → Bool) → List ℕ → List ℕ → List Policy → Outcome (Unit {0})
 setup_check right cells rights policies =
     cond (small (length cells) (length policies))
-    (cond (paired (length cells) (length rights) policies) (cond (every right rights) (answered tt) (refused 16)) (refused 15))
+    (cond (paired (length cells) (length rights) policies) (cond (list_all right rights) (answered tt) (refused 16)) (refused 15))
     (refused 14)
 
 -- Nothing has been opened yet.

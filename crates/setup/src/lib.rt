@@ -5,7 +5,8 @@ ghost use Rattle.std.specs.Prelude.{◌≡◌, ◌<◌, length, OnOk, slice_inde
 ghost use Rattle.protocol.specs.Refusals.{outcome};
 ghost use Rattle.serial.specs.Words.{setup_of};
 ghost use Rattle.serial.specs.History.{Admitted};
-ghost use Rattle.setup.specs.Admission.{every, small, present, paired, setup_check, first_state};
+ghost use Rattle.std.specs.List.{list_all};
+ghost use Rattle.setup.specs.Admission.{small, present, paired, stored, setup_check, first_state};
 
 use protocol::{Object, Policy, Refusal};
 use rights::RightsOrder;
@@ -27,14 +28,11 @@ fn is_present(object: Object, cells: usize, policies: usize) -> bool
 }
 
 fn all_present(policies: &[Policy], cells: usize) -> bool
-    ensures { result ≡ every (λ p. present cells (length policies.now) p.object) policies.now }
+    ensures { result ≡ list_all (λ p. present cells (length policies.now) p.object) policies.now }
 {
-    for i in 0..policies.len() {
-        if !is_present(policies[i].object, cells, policies.len()) {
-            return false;
-        }
-    }
-    true
+    policies
+        .iter()
+        .all(|policy| is_present(policy.object, cells, policies.len()))
 }
 
 fn is_paired(policies: &[Policy], cells: usize, rights: usize) -> bool
@@ -44,24 +42,15 @@ fn is_paired(policies: &[Policy], cells: usize, rights: usize) -> bool
 }
 
 fn right_at<R: Store, O: RightsOrder>(rights: &R, order: &O, at: usize) -> bool
-    requires { at < length (R.Store.list rights.now) }
-    ensures { result ≡ O.RightsOrder.right order.now (slice_index (R.Store.list rights.now) at) }
+    ensures { result ≡ stored (O.RightsOrder.right order.now) (R.Store.list rights.now) at }
 {
-    match rights.read(at) {
-        Ok(code) => order.is_right(code),
-        Err(_) => false,
-    }
+    rights.read(at).is_ok_and(|code| order.is_right(code))
 }
 
 fn all_rights<R: Store, O: RightsOrder>(rights: &R, order: &O) -> bool
-    ensures { result ≡ every (O.RightsOrder.right order.now) (R.Store.list rights.now) }
+    ensures { result ≡ list_all (O.RightsOrder.right order.now) (R.Store.list rights.now) }
 {
-    for i in 0..rights.size() {
-        if !right_at(rights, order, i) {
-            return false;
-        }
-    }
-    true
+    (0..rights.size()).all(|at| right_at(rights, order, at))
 }
 
 // Refuses, in this order: too many cells or policies; a policy list that is not as long as the rights store, or names an absent

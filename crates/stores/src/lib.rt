@@ -1,6 +1,7 @@
 // Stores: numbers by position, behind one meaning.
 #![tactic(auto)]
 
+mod numbers;
 mod slice;
 mod store;
 mod table;

@@ -1,6 +1,7 @@
 // A store on the caller's own buffer of numbers: that buffer is the list.
 ghost use Rattle.std.specs.Prelude.{◌≡◌, [], ◌∷◌};
 
+use crate::numbers::{read_number, write_number};
 use crate::store::Store;
 use protocol::Refusal;
 
@@ -28,17 +29,10 @@ impl Store for SliceStore<'_> {
     }
 
     fn read(&self, at: usize) -> Result<u32, Refusal> {
-        if at >= self.size() {
-            return Err(Refusal::Absent);
-        }
-        Ok(self.numbers[at])
+        read_number(self.numbers, at)
     }
 
     fn write(&mut self, at: usize, value: u32) -> Result<(), Refusal> {
-        if at >= self.size() {
-            return Err(Refusal::Absent);
-        }
-        self.numbers[at] = value;
-        Ok(())
+        write_number(self.numbers, at, value)
     }
 }

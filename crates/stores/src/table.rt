@@ -1,16 +1,16 @@
 // A store that owns its numbers, up to 64 of them.
-ghost use Rattle.std.specs.Prelude.{◌≡◌, ◌≤◌, [], length, take};
+ghost use Rattle.std.specs.Prelude.{◌≡◌, []};
 ghost use Rattle.protocol.specs.Refusals.{outcome};
 ghost use Rattle.stores.specs.Lists.{table_check, table_of};
 
+use crate::numbers::{read_number, write_number};
 use crate::store::Store;
+use arrayvec::ArrayVec;
 use protocol::Refusal;
 
 #[derive(Drop)]
 pub struct TableStore {
-    numbers: [u32; 64],
-    len: usize,
-    ghost fits: { len ≤ 64 },
+    numbers: ArrayVec<u32, 64>,
 }
 
 impl TableStore {
@@ -27,46 +27,28 @@ impl TableStore {
 
     // A copy of the list; one that `check` refuses makes an empty table.
     pub fn new(numbers: &[u32]) -> TableStore
-        ensures { take result.len result.numbers ≡ table_of numbers.now }
+        ensures { result.numbers.items ≡ table_of numbers.now }
     {
-        let mut own = [0; 64];
-        if numbers.len() > 64 {
-            return TableStore {
-                numbers: own,
-                len: 0,
-            };
-        }
-        for i in 0..numbers.len() {
-            own[i] = numbers[i];
-        }
         TableStore {
-            numbers: own,
-            len: numbers.len(),
+            numbers: ArrayVec::try_from(numbers).unwrap_or_default(),
         }
     }
 }
 
 impl Store for TableStore {
-    ghost list = { λ s. take s.len s.numbers };
+    ghost list = { λ s. s.numbers.items };
 
     ghost lent = { λ _. [] };
 
     fn size(&self) -> usize {
-        self.len
+        self.numbers.len()
     }
 
     fn read(&self, at: usize) -> Result<u32, Refusal> {
-        if at >= self.size() {
-            return Err(Refusal::Absent);
-        }
-        Ok(self.numbers[at])
+        read_number(&self.numbers, at)
     }
 
     fn write(&mut self, at: usize, value: u32) -> Result<(), Refusal> {
-        if at >= self.size() {
-            return Err(Refusal::Absent);
-        }
-        self.numbers[at] = value;
-        Ok(())
+        write_number(&mut self.numbers, at, value)
     }
 }
