@@ -1,28 +1,15 @@
 // Runs the tape on standard input as a day, and prints a line for each answer.
 #![tactic(auto)]
 
-use anyhow::anyhow;
 use std::io::{Read, Write};
-use tape::{TapeError, lines_of_tape};
-
-fn reason(error: TapeError) -> anyhow::Error {
-    match error {
-        TapeError::OutOfMemory => anyhow!("there is not enough memory for the tape"),
-        TapeError::SetUp(_) => anyhow!("set-up refuses"),
-        TapeError::Lines(_) => anyhow!("the lines exceed the buffer"),
-    }
-}
+use tape::lines_of_tape;
 
 fn run(rt: &HostRuntime) -> anyhow::Result<()> {
     let mut bytes = Vec::new(rt.alloc());
     rt.stdin().read_to_end(&mut bytes)?;
-    match lines_of_tape(rt.alloc(), bytes.as_slice()) {
-        Ok(lines) => {
-            rt.stdout().write_all(lines.as_slice())?;
-            Ok(())
-        }
-        Err(error) => Err(reason(error)),
-    }
+    let lines = lines_of_tape(rt.alloc(), bytes.as_slice())?;
+    rt.stdout().write_all(lines.as_slice())?;
+    Ok(())
 }
 
 fn main(rt: HostRuntime) -> anyhow::Result<()> {

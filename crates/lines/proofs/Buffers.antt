@@ -1,20 +1,13 @@
 -- Bytes that were written to the front of a buffer, and bytes that exceed it.
-use Rattle.std.proofs.Common.{◌≡◌, ℕ, ◌-◌, ◌<◌, ◌≤◌, leb, List, ◌++◌, length, take, drop, sym, ap, ◌∙◌, ap₂, ⊎_elim, arith}
+use Rattle.std.proofs.Common.{◌≡◌, ℕ, ◌-◌, ◌<◌, ◌≤◌, leb, List, ◌++◌, length, take, drop, sym, ap, ◌∙◌, ⊎_elim, arith}
 use borrow.Rule.Slice.PartMut.{put_mid}
 use Rattle.std.proofs.lemmas.List.{append-nil, drop_all, length-drop}
 use Rattle.std.proofs.lemmas.Bool.{cond-true, cond-false, le-leb, lt-leb, leb-true, leb-false, cases_Bool}
 use Rattle.protocol.specs.Refusals.{answered, refused}
 use Rattle.records.specs.Buffers.{put_answer, put_front}
-use Rattle.records.proofs.Buffers.{put_length}
 
 pub put : (bs buffer : List ℕ) → length bs ≤ length buffer → bs ++ drop (length bs) buffer ≡ put_front bs buffer
 put bs buffer fits = sym (cond-true _ _ _ (le-leb (length bs) (length buffer) fits))
-
-pub copied : (bs xs copy buffer : List ℕ) → xs ≡ bs → copy ≡ xs → length xs ≤ length buffer → (answered (length xs) ≡ put_answer bs buffer) × (put_mid 0 (length xs - 0) buffer copy ≡ put_front bs buffer)
-copied bs xs copy buffer is same fits =
-    let long = ap length is in
-    let all : length xs - 0 ≡ length bs = omega arith in
-    (put_length bs buffer _ long (omega arith), ap₂ (λ ys k. ys ++ drop k buffer) (same ∙ is) all ∙ put bs buffer (omega arith))
 
 pub exceeds : (bs xs buffer : List ℕ) → xs ≡ bs → length buffer < length xs → (refused 12 ≡ put_answer bs buffer) × (buffer ≡ put_front bs buffer)
 exceeds bs xs buffer is over =

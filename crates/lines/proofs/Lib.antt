@@ -1,4 +1,2 @@
 pub mod Buffers
-pub mod Digits
-pub mod PutLine
 pub mod Written

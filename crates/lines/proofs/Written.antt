@@ -20,20 +20,19 @@ all_fit (answer ∷ more) room h =
     cond-true _ _ _ (le-leb (length line) room (omega arith)) ∙ ap (λ ls. line ++ ls) (all_fit more (room - length line) (omega arith))
 
 -- the lines of the first answers end at `end`, and what stands behind them stayed
-abbrev pub Written : List Answer → List ℕ → ℕ → ℕ → List ℕ → Type 0
-Written answers whole i end buffer =
-    (end ≤ length whole)
-    × (end + length (answer_lines (drop i answers)) ≡ length (answer_lines answers))
-    × (take end buffer ++ fitting (length whole - end) (drop i answers) ≡ fitting (length whole) answers)
-    × (drop end buffer ≡ drop end whole)
+pub record Written (answers : List Answer) (whole : List ℕ) (i end : ℕ) (buffer : List ℕ) : Type 0 where
+  pub within : end ≤ length whole
+  pub left : end + length (answer_lines (drop i answers)) ≡ length (answer_lines answers)
+  pub front : take end buffer ++ fitting (length whole - end) (drop i answers) ≡ fitting (length whole) answers
+  pub behind : drop end buffer ≡ drop end whole
 
 module _ (answers : List Answer) (whole : List ℕ) (i end : ℕ) (buffer : List ℕ) (long : length buffer ≡ length whole) (written : Written answers whole i end buffer) where
   -- no line more
   ended : fitting (length whole - end) (drop i answers) ≡ [] → buffer ≡ fitting_front answers whole
   ended none =
-      let lines : take end buffer ≡ fitting (length whole) answers = sym (append-nil _) ∙ ap (λ ls. take end buffer ++ ls) (sym none) ∙ written.2 in
+      let lines : take end buffer ≡ fitting (length whole) answers = sym (append-nil _) ∙ ap (λ ls. take end buffer ++ ls) (sym none) ∙ written.front in
       let size : end ≡ length (fitting (length whole) answers) = sym (length-take-le end buffer (omega arith)) ∙ ap length lines in
-      sym (take-append-drop end buffer) ∙ ap₂ (λ ls rest. ls ++ rest) lines (written.3 ∙ ap (λ k. drop k whole) size)
+      sym (take-append-drop end buffer) ∙ ap₂ (λ ls rest. ls ++ rest) lines (written.behind ∙ ap (λ k. drop k whole) size)
 
   pub written_all : length answers ≤ i → (answered end ≡ put_answer (answer_lines answers) whole) × (buffer ≡ fitting_front answers whole)
   unfolding answer_lines fitting
@@ -54,7 +53,7 @@ module _ (answers : List Answer) (whole : List ℕ) (i end : ℕ) (buffer : List
 
     lines_size : end + (length line + length (answer_lines (drop (i + 1) answers))) ≡ length (answer_lines answers)
     unfolding answer_lines
-    lines_size = ap (λ n. end + n) (sym (ap (λ xs. length (answer_lines xs)) next ∙ length-append line _)) ∙ written.1
+    lines_size = ap (λ n. end + n) (sym (ap (λ xs. length (answer_lines xs)) next ∙ length-append line _)) ∙ written.left
 
     pub written_stop : (k : ℕ) → refused k ≡ put_answer line part → (refused k ≡ put_answer (answer_lines answers) whole) × (put_mid end (length buffer - end) buffer last ≡ fitting_front answers whole)
     unfolding fitting
@@ -73,7 +72,7 @@ module _ (answers : List Answer) (whole : List ℕ) (i end : ℕ) (buffer : List
     grown : (n : ℕ) → answered n ≡ put_answer line part → put_mid end (length buffer - end) buffer last ≡ take end buffer ++ line ++ drop (end + n) whole
     grown n said =
         let f = fits_from line part n said in
-        let stayed : drop (length line) part ≡ drop (end + n) whole = ap₂ drop (sym f.0) (behind ∙ written.3) ∙ drop-drop n end whole in
+        let stayed : drop (length line) part ≡ drop (end + n) whole = ap₂ drop (sym f.0) (behind ∙ written.behind) ∙ drop-drop n end whole in
         written_behind buffer end last
         ∙ ap (λ xs. take end buffer ++ xs) (after ∙ sym (put line part f.1) ∙ ap (λ xs. line ++ xs) stayed)
         ∙ sym (append_assoc (take end buffer) line _)
@@ -85,12 +84,13 @@ module _ (answers : List Answer) (whole : List ℕ) (i end : ℕ) (buffer : List
         let room = le-leb (length line) (length whole - end) (omega (arith, f.1, size)) in
         let front = take end buffer ++ line in
         let front_size : length front ≡ end + n = length-append (take end buffer) line ∙ ap₂ (λ a b. a + b) (length-take-le end buffer (omega arith)) (sym f.0) in
-        let left : length whole - (end + n) ≡ length whole - end - length line = omega (arith, f.0) in (
-          omega (arith, f, size),
-          omega (arith, f.0, lines_size),
-          ap₂ (λ xs k. xs ++ fitting k (drop (i + 1) answers)) (ap (take (end + n)) (grown n said) ∙ take_at front _ _ front_size) left
+        let left : length whole - (end + n) ≡ length whole - end - length line = omega (arith, f.0) in
+        record {
+          within = omega (arith, f, size);
+          left = omega (arith, f.0, lines_size);
+          front = ap₂ (λ xs k. xs ++ fitting k (drop (i + 1) answers)) (ap (take (end + n)) (grown n said) ∙ take_at front _ _ front_size) left
               ∙ append_assoc (take end buffer) line _
               ∙ ap (λ xs. take end buffer ++ xs) (sym (ap (fitting (length whole - end)) next ∙ cond-true _ _ _ room))
-              ∙ written.2,
-          ap (drop (end + n)) (grown n said) ∙ drop_at front _ _ front_size,
-        )
+              ∙ written.front;
+          behind = ap (drop (end + n)) (grown n said) ∙ drop_at front _ _ front_size;
+        }

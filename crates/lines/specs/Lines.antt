@@ -1,9 +1,8 @@
--- Lines of text: of an answer, of answers one after another, and of a tape's fault.
-use Rattle.std.specs.Prelude.{ℕ, ◌-◌, cond, List, [], ◌∷◌, ◌++◌, length, drop, Some, None, codes, decimal, Option, nat_le}
+-- Lines of text: of an answer, and of answers one after another.
+use Rattle.std.specs.Prelude.{ℕ, ◌-◌, cond, List, [], ◌∷◌, ◌++◌, length, drop, codes, decimal, nat_le}
 use Rattle.protocol.specs.Refusals.{refusal_number}
 use Rattle.protocol.specs.declared.answer.Answer.{Answer}
 use Rattle.protocol.specs.declared.answer.Answer.TheVariants.{Granted, Refused, Wait, Aborted}
-use Rattle.records.specs.declared.fault.FaultValues.{FaultValues}
 
 -- Each number in decimal after a space, and then a line feed.
 abbrev pub numbers_part : List ℕ → List ℕ
@@ -18,15 +17,6 @@ answer_line (Granted number) = line (codes "G") (number ∷ [])
 answer_line (Refused refusal) = line (codes "R") (refusal_number refusal ∷ [])
 answer_line (Wait transaction) = line (codes "W") (transaction ∷ [])
 answer_line (Aborted by policy) = line (codes "S") (by ∷ policy ∷ [])
-
--- A fault's line: F, its number, the record's number and its first byte.
-abbrev pub values_line : FaultValues → List ℕ
-values_line f = line (codes "F") (f.fault ∷ f.number ∷ f.start ∷ [])
-
--- No line where there is no fault
-abbrev pub fault_line : Option FaultValues → List ℕ
-fault_line None = []
-fault_line (Some f) = values_line f
 
 -- The lines of answers, one after another.
 unfoldable pub answer_lines : List Answer → List ℕ

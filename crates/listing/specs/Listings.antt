@@ -1,5 +1,6 @@
 -- The listing of a tape: a line for each record, the fault's line, and a line that says what was read.
 use Rattle.std.specs.Prelude.{ℕ, ◌+◌, List, [], ◌∷◌, ◌++◌, length, Some, None, codes, decimal, Option}
+use Rattle.records.specs.Faults.{fault_line}
 use Rattle.records.specs.Records.{record_bytes}
 use Rattle.records.specs.Tapes.{TapeReading, tape_of}
 use Rattle.protocol.specs.Words.{words}
@@ -14,14 +15,6 @@ request_line number start request = decimal number ++ codes " " ++ decimal start
 unfoldable pub request_lines : ℕ → ℕ → List Request → List ℕ
 request_lines number start [] = []
 request_lines number start (request ∷ more) = request_line number start request ++ request_lines (number + 1) (start + length (record_bytes request)) more
-
--- A fault's line: F, its number, the record's number and its first byte.
-abbrev pub values_line : FaultValues → List ℕ
-values_line f = codes "F " ++ decimal f.fault ++ codes " " ++ decimal f.number ++ codes " " ++ decimal f.start ++ codes "\n"
-
-abbrev pub fault_line : Option FaultValues → List ℕ
-fault_line None = []
-fault_line (Some f) = values_line f
 
 abbrev pub ending : Option FaultValues → List ℕ
 ending None = codes "read to the end"

@@ -1,6 +1,5 @@
 -- Reading a record gives back the request that it was made of.
-use Rattle.std.proofs.Common.{◌≡◌, ℕ, ◌<◌, ◌≤◌, List, ◌++◌, length, sym, ap, ◌∙◌, subst, ap₂, arith, lit≤}
-use Rattle.records.specs.Buffers.{put_answer, put_front}
+use Rattle.std.proofs.Common.{◌≡◌, ℕ, ◌<◌, ◌≤◌, List, ◌++◌, length, ap, ◌∙◌, ap₂, arith, lit≤}
 use Rattle.protocol.specs.Bytes.{two_bytes, four_bytes, two_at, four_at, field_bytes}
 use Rattle.records.specs.Records.{record_bytes, Fits, request_of, with_rest, record_in, record_of}
 use Rattle.protocol.specs.Refusals.{Outcome, answered}
@@ -25,9 +24,3 @@ record_back (Show t p) (f, g) rest = back 5 (two_bytes t ++ two_bytes p) rest (S
 record_back (Set t p r) (f, g, h) rest = back 6 (two_bytes t ++ two_bytes p ++ four_bytes r) rest (Set t p r) (lit≤ tt) (long Set t p r f g h)
 record_back (Commit t) f rest = back 7 (two_bytes t) rest (Commit t) (lit≤ tt) (ap (λ n. answered (Commit n)) (two_back t f))
 record_back (GiveUp t) f rest = back 8 (two_bytes t) rest (GiveUp t) (lit≤ tt) (ap (λ n. answered (GiveUp n)) (two_back t f))
-
--- a field with the content of a request was written
-pub field_wrote : (q p : Request) (tag : ℕ) (content buffer : List ℕ) → q ≡ p → field_bytes tag content ≡ record_bytes p → Fits p → {r : Outcome ℕ} {after : List ℕ} → r ≡ put_answer (field_bytes tag content) buffer → after ≡ put_front (field_bytes tag content) buffer → (r ≡ put_answer (record_bytes q) buffer) × (after ≡ put_front (record_bytes q) buffer) × ((rest : List ℕ) → record_of (record_bytes q ++ rest) ≡ answered (q, rest))
-field_wrote q p tag content buffer is whole fits answer after =
-    let same = whole ∙ ap record_bytes (sym is) in
-    (answer ∙ ap (λ bs. put_answer bs buffer) same, after ∙ ap (λ bs. put_front bs buffer) same, record_back q (subst Fits (sym is) fits))

@@ -1,8 +1,8 @@
 -- The records of a tape, one by one.
-use Rattle.std.proofs.Common.{◌≡◌, ℕ, zero, suc, ◌+◌, ◌-◌, ◌<◌, ◌≤◌, List, [], ◌∷◌, ◌++◌, length, take, Some, None, Option, sym, refl, ap, ◌∙◌, ap₂, ⊎_elim, arith, lit≤}
+use Rattle.std.proofs.Common.{◌≡◌, ℕ, zero, suc, ◌+◌, ◌-◌, ◌<◌, ◌≤◌, List, [], ◌∷◌, ◌++◌, length, take, Some, None, Option, sym, refl, ap, ◌∙◌, ap₂, arith, lit≤}
 use Rattle.std.proofs.lemmas.List.{append_assoc, append-nil, length-append, flat_map_more, length-take, nil_from_length, take_at}
 use Rattle.std.specs.List.{AllByRecursion}
-use Rattle.std.proofs.lemmas.Bool.{cond-true, cond-false, le-leb, lt-leb, cases_lt}
+use Rattle.std.proofs.lemmas.Bool.{cond-true, cond-false, le-leb, lt-leb}
 use Rattle.records.specs.declared.fault.FaultValues.{FaultValues}
 use Rattle.protocol.specs.declared.request.Request.{Request}
 use Rattle.protocol.specs.declared.request.Request.TheVariants.{Open, Deploy, Read, Write, Show, Set, Commit, GiveUp}
@@ -112,11 +112,3 @@ tape_short bytes h = sym (cond-true _ _ _ (le-leb (length bytes) 60000 h))
 
 pub tape_long : (bytes : List ℕ) → 60000 < length bytes → stopped 13 0 0 ≡ tape_of bytes
 tape_long bytes h = sym (cond-false _ _ _ (lt-leb (length bytes) 60000 h))
-
--- the records that were read from a tape are no longer than a tape may be
-pub tape_bound : (bytes : List ℕ) (tape : TapeReading) → ReadsTape bytes tape → length (tape_bytes tape.requests) ≤ 60000
-tape_bound bytes tape r =
-    ⊎_elim
-    (λ h. let none : length (tape_bytes tape.requests) ≡ 0 = ap (λ t. length (tape_bytes t.requests)) (r.reads ∙ sym (tape_long bytes h)) in omega arith)
-    (λ h. let up = length_up_to tape.fault bytes in omega (arith, ap length r.one_record_each))
-    (cases_lt 60000 (length bytes))

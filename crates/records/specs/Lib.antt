@@ -1,4 +1,5 @@
 pub mod Buffers
 pub mod Faults
 pub mod Records
+pub mod Tags
 pub mod Tapes

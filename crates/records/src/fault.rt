@@ -1,8 +1,11 @@
 // What is wrong with bytes that should be a tape of records: a field's fault into a record's into a tape's.
-ghost use Rattle.std.specs.Prelude.{◌≡◌};
-ghost use Rattle.records.specs.Faults.{record_number, fault_values};
-ghost use Rattle.records.specs.declared.fault.RecordFault.TheVariants.{Field};
+ghost use Rattle.std.specs.Prelude.{◌≡◌, Some};
+ghost use Rattle.records.specs.Faults.{record_number, fault_values, values_words};
+ghost use Rattle.records.specs.declared.fault.RecordFault.TheVariants.{Field, WrongLength};
 ghost use Rattle.records.specs.declared.fault.TapeFault.TheVariants.{Record};
+
+use std::array::TryFromSliceError;
+use std::fmt;
 
 #[derive(Clone, Copy, PartialEq, Eq, Debug)]
 pub enum FieldFault {
@@ -33,7 +36,7 @@ pub enum TapeFault {
     Record(Placed),
 }
 
-// A fault in numbers, as it is printed.
+// A fault in numbers, as a line prints it, where `Placed` has the fault itself: of a tape that is too long both places are 0.
 #[derive(Clone, Copy, PartialEq, Eq, Debug)]
 pub struct FaultValues {
     pub fault: u8,
@@ -42,6 +45,7 @@ pub struct FaultValues {
 }
 
 impl RecordFault {
+    // By a match, since a case with a value in it takes no number of its own.
     pub fn number(self) -> u8
         ensures { result ≡ record_number self }
     {
@@ -53,11 +57,36 @@ impl RecordFault {
     }
 }
 
-impl TapeFault {
-    pub fn values(self) -> FaultValues
-        ensures { result ≡ fault_values self }
-    {
-        match self {
+impl From<FieldFault> for RecordFault {
+    ghost from_gives = { λ f r. r ≡ Field f };
+
+    fn from(fault: FieldFault) -> RecordFault {
+        RecordFault::Field(fault)
+    }
+}
+
+// A content of another length than the tag's.
+impl From<TryFromSliceError> for RecordFault {
+    ghost from_gives = { λ _ r. r ≡ WrongLength };
+
+    fn from(_error: TryFromSliceError) -> RecordFault {
+        RecordFault::WrongLength
+    }
+}
+
+impl From<Placed> for TapeFault {
+    ghost from_gives = { λ p r. r ≡ Record p };
+
+    fn from(placed: Placed) -> TapeFault {
+        TapeFault::Record(placed)
+    }
+}
+
+impl From<TapeFault> for FaultValues {
+    ghost from_gives = { λ fault values. values ≡ fault_values fault };
+
+    fn from(fault: TapeFault) -> FaultValues {
+        match fault {
             TapeFault::TooLong => FaultValues {
                 fault: 13,
                 number: 0,
@@ -78,18 +107,15 @@ impl TapeFault {
     }
 }
 
-impl From<FieldFault> for RecordFault {
-    ghost from_gives = { λ f r. r ≡ Field f };
+impl fmt::Display for FaultValues {
+    ghost output = { λ values. Some (values_words values) };
 
-    fn from(fault: FieldFault) -> RecordFault {
-        RecordFault::Field(fault)
-    }
-}
-
-impl From<Placed> for TapeFault {
-    ghost from_gives = { λ p r. r ≡ Record p };
-
-    fn from(placed: Placed) -> TapeFault {
-        TapeFault::Record(placed)
+    fn fmt<W: fmt::Write>(&self, f: &mut fmt::Formatter<W>) -> fmt::Result {
+        let FaultValues {
+            fault,
+            number,
+            start,
+        } = *self;
+        write!(f, "F {fault} {number} {start}")
     }
 }

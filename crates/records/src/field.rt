@@ -40,9 +40,7 @@ pub(crate) fn put_field(buffer: &mut [u8], tag: u8, content: &[u8]) -> Result<us
         return Err(Refusal::ExceedsBuffer);
     }
     let [high, low] = (content.len() as u16).to_be_bytes();
-    buffer[0] = tag;
-    buffer[1] = high;
-    buffer[2] = low;
+    buffer[..3].copy_from_slice(&[tag, high, low]);
     buffer[3..len].copy_from_slice(content);
     Ok(len)
 }

@@ -4,6 +4,7 @@
 mod fault;
 mod field;
 mod record;
+mod tag;
 mod tape;
 
 pub use fault::{FaultValues, FieldFault, Placed, RecordFault, TapeFault};

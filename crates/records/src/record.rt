@@ -3,101 +3,88 @@ ghost use Rattle.std.specs.Prelude.{◌≡◌, ℕ, List, ◌++◌, length, IfOk
 ghost use Rattle.records.specs.Buffers.{put_answer, put_front};
 ghost use Rattle.protocol.specs.Bytes.{two_bytes, four_bytes, two_at, four_at, field_bytes};
 ghost use Rattle.records.specs.Faults.{record_number};
-ghost use Rattle.records.specs.Records.{record_bytes, of_length, request_of, record_of};
+ghost use Rattle.records.specs.Records.{record_bytes, request_of, record_of};
 ghost use Rattle.protocol.specs.Refusals.{outcome, outcome_by, answered, refused};
 
 use crate::fault::RecordFault;
 use crate::field::{put_field, take_field};
+use crate::tag::Tag;
 use protocol::{Refusal, Request};
 
-fn one_number(content: &[u8]) -> Result<u16, RecordFault>
-    ensures says { outcome_by record_number result ≡ of_length 2 content.now (two_at content.now 0) }
-    ensures whole { IfOk result (λ n. content.now ≡ two_bytes n) }
+// Contents of two lengths, read as one would say them: a function over the length would have to be told what they hold.
+fn two_numbers(bytes: [u8; 4]) -> (u16, u16)
+    ensures says { result ≡ (two_at bytes 0, two_at bytes 2) }
+    ensures whole { bytes ≡ two_bytes result.0 ++ two_bytes result.1 }
 {
-    let [a, b] = content else {
-        return Err(RecordFault::WrongLength);
-    };
-    Ok(u16::from_be_bytes([*a, *b]))
-}
-
-fn two_numbers(content: &[u8]) -> Result<(u16, u16), RecordFault>
-    ensures says { outcome_by record_number result ≡ of_length 4 content.now (two_at content.now 0, two_at content.now 2) }
-    ensures whole { IfOk result (λ n. content.now ≡ two_bytes n.0 ++ two_bytes n.1) }
-{
-    let [a, b, c, d] = content else {
-        return Err(RecordFault::WrongLength);
-    };
-    Ok((u16::from_be_bytes([*a, *b]), u16::from_be_bytes([*c, *d])))
+    let [a, b, c, d] = bytes;
+    (u16::from_be_bytes([a, b]), u16::from_be_bytes([c, d]))
 }
 
 // Two numbers and then one of four bytes, a value or a right.
-fn two_and_long(content: &[u8]) -> Result<(u16, u16, u32), RecordFault>
-    ensures says { outcome_by record_number result ≡ of_length 8 content.now (two_at content.now 0, two_at content.now 2, four_at content.now 4) }
-    ensures whole { IfOk result (λ n. content.now ≡ two_bytes n.0 ++ two_bytes n.1 ++ four_bytes n.2) }
+fn two_and_long(bytes: [u8; 8]) -> (u16, u16, u32)
+    ensures says { result ≡ (two_at bytes 0, two_at bytes 2, four_at bytes 4) }
+    ensures whole { bytes ≡ two_bytes result.0 ++ two_bytes result.1 ++ four_bytes result.2 }
 {
-    let [a, b, c, d, e, f, g, h] = content else {
-        return Err(RecordFault::WrongLength);
-    };
-    Ok((
-        u16::from_be_bytes([*a, *b]),
-        u16::from_be_bytes([*c, *d]),
-        u32::from_be_bytes([*e, *f, *g, *h]),
-    ))
+    let [a, b, c, d, e, f, g, h] = bytes;
+    (
+        u16::from_be_bytes([a, b]),
+        u16::from_be_bytes([c, d]),
+        u32::from_be_bytes([e, f, g, h]),
+    )
 }
 
-// The request that a content says under a tag.
+// The request that a content says under a tag. One arm for each, as each request has a content of its own.
 fn request_of(tag: u8, content: &[u8]) -> Result<Request, RecordFault>
     ensures says { outcome_by record_number result ≡ request_of tag content.now }
     ensures whole { IfOk result (λ request. field_bytes tag content.now ≡ record_bytes request) }
 {
-    match tag {
-        1 => {
-            let subject = one_number(content)?;
+    match Tag::try_from(tag)? {
+        Tag::Open => {
+            let subject = u16::from_be_bytes(<[u8; 2]>::try_from(content)?);
             Ok(Request::Open { subject })
         }
-        2 => {
-            let (transaction, policy) = two_numbers(content)?;
+        Tag::Deploy => {
+            let (transaction, policy) = two_numbers(<[u8; 4]>::try_from(content)?);
             Ok(Request::Deploy {
                 transaction,
                 policy,
             })
         }
-        3 => {
-            let (transaction, cell) = two_numbers(content)?;
+        Tag::Read => {
+            let (transaction, cell) = two_numbers(<[u8; 4]>::try_from(content)?);
             Ok(Request::Read { transaction, cell })
         }
-        4 => {
-            let (transaction, cell, value) = two_and_long(content)?;
+        Tag::Write => {
+            let (transaction, cell, value) = two_and_long(<[u8; 8]>::try_from(content)?);
             Ok(Request::Write {
                 transaction,
                 cell,
                 value,
             })
         }
-        5 => {
-            let (transaction, policy) = two_numbers(content)?;
+        Tag::Show => {
+            let (transaction, policy) = two_numbers(<[u8; 4]>::try_from(content)?);
             Ok(Request::Show {
                 transaction,
                 policy,
             })
         }
-        6 => {
-            let (transaction, policy, right) = two_and_long(content)?;
+        Tag::Set => {
+            let (transaction, policy, right) = two_and_long(<[u8; 8]>::try_from(content)?);
             Ok(Request::Set {
                 transaction,
                 policy,
                 right,
             })
         }
-        7 => {
-            let transaction = one_number(content)?;
+        Tag::Commit => {
+            let transaction = u16::from_be_bytes(<[u8; 2]>::try_from(content)?);
             Ok(Request::Commit { transaction })
         }
-        8 => {
-            let transaction = one_number(content)?;
+        Tag::GiveUp => {
+            let transaction = u16::from_be_bytes(<[u8; 2]>::try_from(content)?);
             Ok(Request::GiveUp { transaction })
         }
-        _ => Err(RecordFault::UnknownTag),
     }
 }
 
@@ -138,38 +125,59 @@ pub fn record_len(request: Request) -> usize
     }
 }
 
-// Writes the record of a request to the front of the buffer, and answers its length.
+// Writes the record of a request to the front of the buffer, and answers its length. One arm for each, as when it is read.
+#[tactic(auto, using(crate::proofs::Records::record_back))]
 pub fn write_record(request: Request, buffer: &mut [u8]) -> Result<usize, Refusal>
     ensures answer { outcome result ≡ put_answer (record_bytes request) buffer.old }
     ensures after { buffer.new ≡ put_front (record_bytes request) buffer.old }
     ensures reads_back { (rest : List ℕ) → record_of (record_bytes request ++ rest) ≡ answered (request, rest) }
 {
     match request {
-        Request::Open { subject } => put_field(buffer, 1, &subject.to_be_bytes()),
+        Request::Open { subject } => put_field(buffer, Tag::Open as u8, &subject.to_be_bytes()),
         Request::Deploy {
             transaction,
             policy,
-        } => put_field(buffer, 2, &two_contents(transaction, policy)),
+        } => put_field(
+            buffer,
+            Tag::Deploy as u8,
+            &two_contents(transaction, policy),
+        ),
         Request::Read { transaction, cell } => put_field(
             buffer,
-            3,
+            Tag::Read as u8,
             &two_contents(transaction, cell),
         ),
         Request::Write {
             transaction,
             cell,
             value,
-        } => put_field(buffer, 4, &long_contents(transaction, cell, value)),
+        } => put_field(
+            buffer,
+            Tag::Write as u8,
+            &long_contents(transaction, cell, value),
+        ),
         Request::Show {
             transaction,
             policy,
-        } => put_field(buffer, 5, &two_contents(transaction, policy)),
+        } => put_field(buffer, Tag::Show as u8, &two_contents(transaction, policy)),
         Request::Set {
             transaction,
             policy,
             right,
-        } => put_field(buffer, 6, &long_contents(transaction, policy, right)),
-        Request::Commit { transaction } => put_field(buffer, 7, &transaction.to_be_bytes()),
-        Request::GiveUp { transaction } => put_field(buffer, 8, &transaction.to_be_bytes()),
+        } => put_field(
+            buffer,
+            Tag::Set as u8,
+            &long_contents(transaction, policy, right),
+        ),
+        Request::Commit { transaction } => put_field(
+            buffer,
+            Tag::Commit as u8,
+            &transaction.to_be_bytes(),
+        ),
+        Request::GiveUp { transaction } => put_field(
+            buffer,
+            Tag::GiveUp as u8,
+            &transaction.to_be_bytes(),
+        ),
     }
 }

@@ -1,12 +1,12 @@
 // A tape: the records of requests, one after another.
 ghost use Rattle.std.specs.Prelude.{◌≡◌, ◌++◌, IfOk, IfErr, MatchResult};
 ghost use Rattle.std.specs.Option.{option_map};
-ghost use Rattle.records.specs.Faults.{fault_values, at_place};
+ghost use Rattle.records.specs.Faults.{fault_values};
 ghost use Rattle.records.specs.Records.{record_bytes, record_of};
 ghost use Rattle.protocol.specs.Refusals.{answered, refused};
 ghost use Rattle.records.specs.Tapes.{ReadsTape};
 
-use crate::fault::{Placed, RecordFault, TapeFault};
+use crate::fault::{FaultValues, Placed, TapeFault};
 use crate::record::read_record;
 use protocol::Request;
 use std::alloc::{AllocError, Global};
@@ -18,21 +18,11 @@ pub struct Tape {
     pub fault: Option<TapeFault>,
 }
 
-// Adds to a record's fault where the record stands on its tape.
-fn placed<'a>(
-    read: Result<(Request, &'a [u8]), RecordFault>,
-    number: u32,
-    start: u32,
-) -> Result<(Request, &'a [u8]), Placed>
-    ensures { result ≡ at_place read.entry number start }
-{
-    match read {
-        Ok(next) => Ok(next),
-        Err(fault) => Err(Placed {
-            fault,
-            number,
-            start,
-        }),
+impl Tape {
+    pub fn fault_values(&self) -> Option<FaultValues>
+        ensures { result ≡ option_map fault_values self.now.fault }
+    {
+        self.fault.map(FaultValues::from)
     }
 }
 
@@ -42,7 +32,11 @@ fn next_request(left: &[u8], number: u32, start: u32) -> Result<(Request, &[u8])
     ensures places { IfErr result (λ e. ((fault_values e).number ≡ number) × ((fault_values e).start ≡ start)) }
     ensures one_record { IfOk result (λ p. left.now ≡ record_bytes p.0 ++ p.1.now) }
 {
-    let next = placed(read_record(left), number, start)?;
+    let next = read_record(left).map_err(|fault| Placed {
+        fault,
+        number,
+        start,
+    })?;
     Ok(next)
 }
 

@@ -2,7 +2,6 @@
 use Rattle.std.proofs.Common.{◌≡◌, ℕ, List, length, Err, arith}
 use Rattle.protocol.specs.Refusals.{refusal_number}
 use Rattle.serial.specs.Words.{Store}
-use Rattle.setup.specs.Admission.{every}
 use Rattle.lines.proofs.Buffers.{exceeds_from}
 use Rattle.records.specs.Tapes.{tape_of}
 use Rattle.tape.specs.declared.error.TapeError.{TapeError}
@@ -11,7 +10,6 @@ use Rattle.tape.specs.Runs.{tape_lines, RunsTape}
 use Rattle.tape.specs.FourCells.{four_cells_setup, four_cells_lists, FailsBy}
 
 pub fails_by : (tape buffer buffer' : List ℕ) (after : Store) (e : TapeError) → length buffer ≡ 170000 → RunsTape four_cells_setup four_cells_lists after tape buffer buffer' (Err e) → FailsBy tape e
-unfolding every
 fails_by tape buffer buffer' after OutOfMemory size ran = tt
 fails_by tape buffer buffer' after (SetUp f) size ran = let refuses = ran.0 in cc
 fails_by tape buffer buffer' after (Lines f) size ran =

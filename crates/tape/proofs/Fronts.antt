@@ -1,36 +1,22 @@
 -- Lines at the front of a buffer, and one more line behind them.
-use Rattle.std.proofs.Common.{◌≡◌, ℕ, ◌+◌, ◌-◌, ◌<◌, ◌≤◌, List, ◌++◌, length, take, drop, Option, sym, ap, ◌∙◌, append_assoc, arith, length-append}
+use Rattle.std.proofs.Common.{◌≡◌, ℕ, ◌+◌, ◌-◌, ◌≤◌, List, ◌++◌, length, take, drop, Option, sym, ap, ◌∙◌, append_assoc, arith, length-append}
 use borrow.Rule.Slice.PartMut.{put_mid}
 use Rattle.std.proofs.lemmas.List.{take_at, drop_at, drop-drop, length-drop}
-use Rattle.std.proofs.lemmas.Bool.{cond-true, cond-false, le-leb, lt-leb}
-use Rattle.protocol.specs.Refusals.{answered, refused}
+use Rattle.std.proofs.lemmas.Bool.{cond-true, le-leb}
+use Rattle.protocol.specs.Refusals.{answered}
 use Rattle.protocol.specs.declared.answer.Answer.{Answer}
 use Rattle.records.specs.Buffers.{put_answer, put_front}
+use Rattle.records.specs.Faults.{fault_line}
 use Rattle.records.specs.declared.fault.FaultValues.{FaultValues}
-use Rattle.lines.specs.Lines.{answer_lines, fault_line, fitting, fitting_front}
-use Rattle.lines.proofs.Buffers.{fits_from, exceeds_from, written_behind}
+use Rattle.lines.specs.Lines.{answer_lines, fitting, fitting_front}
+use Rattle.lines.proofs.Buffers.{fits_from, written_behind}
 use Rattle.tape.specs.Runs.{tape_lines, lines_after}
 
 module _ (answers : List Answer) (fault : Option FaultValues) (whole : List ℕ) where
   abbrev all : List ℕ
   all = tape_lines answers fault
 
-  -- They exceed the buffer.
-  too_long : (k : ℕ) (after : List ℕ) → k ≡ 12 → length whole < length all → after ≡ fitting_front answers whole
-      → (refused k ≡ put_answer all whole) × (after ≡ lines_after answers fault whole)
-  too_long k after e h f = (
-    ap refused e ∙ sym (cond-false _ (answered (length all)) (refused 12) (lt-leb (length all) (length whole) h)),
-    f ∙ sym (cond-false _ (all ++ drop (length all) whole) (fitting_front answers whole) (lt-leb (length all) (length whole) h)),
-  )
-
-  -- The answers' lines alone exceed it.
-  pub answers_exceed : (k : ℕ) (after : List ℕ) → refused k ≡ put_answer (answer_lines answers) whole → after ≡ fitting_front answers whole
-      → (refused k ≡ put_answer all whole) × (after ≡ lines_after answers fault whole)
-  answers_exceed k after e f =
-      let x = exceeds_from (answer_lines answers) whole k e in
-      too_long k after x.0 (omega (arith, x.1, length-append (answer_lines answers) (fault_line fault))) f
-
-  -- They fit, and the fault's line is written behind them.
+  -- The answers' lines fit, and the fault's line is written behind them.
   module _ (n : ℕ) (told : answered n ≡ put_answer (answer_lines answers) whole) (buffer : List ℕ) (front : buffer ≡ fitting_front answers whole)
       (fit : length (answer_lines answers) ≤ length whole → fitting (length whole) answers ≡ answer_lines answers)
       (line part last : List ℕ) (same : line ≡ fault_line fault) (behind : part ≡ drop n buffer) (put_line : last ≡ put_front line part) where
@@ -46,32 +32,20 @@ module _ (answers : List Answer) (fault : Option FaultValues) (whole : List ℕ)
     part_is : part ≡ drop n whole
     part_is = behind ∙ ap (drop n) buffer_is ∙ drop_at (answer_lines answers) (drop n whole) n (sym size.0)
 
-    part_size : length part ≡ length whole - n
-    part_size = ap length part_is ∙ length-drop n whole
-
     joined : put_mid n (length buffer - n) buffer last ≡ answer_lines answers ++ last
     joined = written_behind buffer n last ∙ ap (λ l. l ++ last) (ap (take n) buffer_is ∙ take_at (answer_lines answers) (drop n whole) n (sym size.0))
 
-    pub fault_exceeds : (k : ℕ) → refused k ≡ put_answer line part
-        → (refused k ≡ put_answer all whole) × (put_mid n (length buffer - n) buffer last ≡ lines_after answers fault whole)
-    fault_exceeds k e =
-        let x = exceeds_from (fault_line fault) part k (e ∙ ap (λ l. put_answer l part) same) in
-        too_long k _ x.0 (omega (arith, x.1, part_size, size.0, size.1, length-append (answer_lines answers) (fault_line fault)))
-        (joined ∙ ap (λ l. answer_lines answers ++ l) (put ∙ cond-false _ _ part (lt-leb (length (fault_line fault)) (length part) x.1) ∙ part_is) ∙ sym buffer_is ∙ front)
-
-    pub fault_fits : (m : ℕ) → answered m ≡ put_answer line part
-        → (answered (n + m) ≡ put_answer all whole) × (put_mid n (length buffer - n) buffer last ≡ lines_after answers fault whole)
+    pub fault_fits : (m : ℕ) → answered m ≡ put_answer line part → put_mid n (length buffer - n) buffer last ≡ lines_after answers fault whole
     fault_fits m e =
         let x = fits_from (fault_line fault) part m (e ∙ ap (λ l. put_answer l part) same) in
         let long : length all ≡ n + m = omega (arith, x.0, size.0, length-append (answer_lines answers) (fault_line fault)) in
-        let fits : length all ≤ length whole = omega (arith, long, x.0, x.1, part_size, size.0, size.1) in
+        let fits : length all ≤ length whole = omega (arith, long, x.0, x.1, ap length part_is ∙ length-drop n whole, size.0, size.1) in
         let rest : drop (length (fault_line fault)) part ≡ drop (length all) whole =
-        ap (drop (length (fault_line fault))) part_is ∙ drop-drop (length (fault_line fault)) n whole ∙ ap (λ i. drop i whole) (omega (arith, x.0, long)) in (
-          ap answered (sym long) ∙ sym (cond-true _ (answered (length all)) (refused 12) (le-leb (length all) (length whole) fits)),
-          joined ∙ ap (λ l. answer_lines answers ++ l) (put ∙ cond-true _ (fault_line fault ++ drop (length (fault_line fault)) part) part (le-leb (length (fault_line fault)) (length part) x.1) ∙ ap (λ r. fault_line fault ++ r) rest)
-              ∙ sym (append_assoc (answer_lines answers) (fault_line fault) (drop (length all) whole))
-              ∙ sym (cond-true _ (all ++ drop (length all) whole) (fitting_front answers whole) (le-leb (length all) (length whole) fits)),
-        )
+        ap (drop (length (fault_line fault))) part_is ∙ drop-drop (length (fault_line fault)) n whole ∙ ap (λ i. drop i whole) (omega (arith, x.0, long)) in
+        joined
+        ∙ ap (λ l. answer_lines answers ++ l) (put ∙ cond-true _ (fault_line fault ++ drop (length (fault_line fault)) part) part (le-leb (length (fault_line fault)) (length part) x.1) ∙ ap (λ r. fault_line fault ++ r) rest)
+        ∙ sym (append_assoc (answer_lines answers) (fault_line fault) (drop (length all) whole))
+        ∙ sym (cond-true _ (all ++ drop (length all) whole) (fitting_front answers whole) (le-leb (length all) (length whole) fits))
 
   -- What stands at the buffer's front, when it is cut off there
   pub cut : (n m : ℕ) (buffer more : List ℕ) → answered n ≡ put_answer all whole → buffer ≡ lines_after answers fault whole → length buffer ≡ m → take n (take m (buffer ++ more)) ≡ all

@@ -1,3 +1,2 @@
-pub mod Whole
 pub mod Fronts
 pub mod Failing

@@ -1,2 +1,3 @@
-pub mod Runs
 pub mod FourCells
+pub mod Messages
+pub mod Runs

@@ -13,7 +13,8 @@ use Rattle.setup.specs.Admission.{setup_check}
 use Rattle.tape.specs.declared.error.TapeError.{TapeError}
 use Rattle.tape.specs.declared.error.TapeError.TheVariants.{OutOfMemory, SetUp, Lines}
 use Rattle.records.specs.declared.fault.FaultValues.{FaultValues}
-use Rattle.lines.specs.Lines.{answer_lines, fault_line, fitting_front}
+use Rattle.records.specs.Faults.{fault_line}
+use Rattle.lines.specs.Lines.{answer_lines, fitting_front}
 
 -- A line for each answer, and the line of the fault at which the tape was left
 abbrev pub tape_lines : List Answer → Option FaultValues → List ℕ

@@ -1,9 +1,12 @@
 // Why a tape was not run, or not printed.
-ghost use Rattle.std.specs.Prelude.{◌≡◌};
+ghost use Rattle.std.specs.Prelude.{◌≡◌, Some};
+ghost use Rattle.tape.specs.Messages.{message};
 ghost use Rattle.tape.specs.declared.error.TapeError.TheVariants.{OutOfMemory};
 
 use protocol::Refusal;
 use std::alloc::AllocError;
+use std::error::Error;
+use std::fmt;
 
 #[derive(Clone, Copy, PartialEq, Eq, Debug)]
 pub enum TapeError {
@@ -22,3 +25,17 @@ impl From<AllocError> for TapeError {
         TapeError::OutOfMemory
     }
 }
+
+impl fmt::Display for TapeError {
+    ghost output = { λ error. Some (message error) };
+
+    fn fmt<W: fmt::Write>(&self, f: &mut fmt::Formatter<W>) -> fmt::Result {
+        f.write_str(match self {
+            TapeError::OutOfMemory => "there is not enough memory for the tape",
+            TapeError::SetUp(_) => "set-up refuses",
+            TapeError::Lines(_) => "the lines exceed the buffer",
+        })
+    }
+}
+
+impl Error for TapeError {}

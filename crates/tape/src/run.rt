@@ -26,17 +26,16 @@ fn answer_all<C: Store, R: Store, O: RightsOrder>(
     ensures lent { Lent C.Store R.Store cells.old rights.old cells.new rights.new }
 {
     let mut answers = vec![in heap; Answer::Granted(0); requests.len()]?;
-    match run_day(
+    run_day(
         cells,
         rights,
         order,
         policies,
         requests,
         answers.as_mut_slice(),
-    ) {
-        Ok(_) => Ok(answers),
-        Err(refusal) => Err(TapeError::SetUp(refusal)),
-    }
+    )
+    .map_err(TapeError::SetUp)?;
+    Ok(answers)
 }
 
 // Runs the tape on the two stores, and writes a line for each answer, and the line of the tape's fault. How long they are.
@@ -55,8 +54,5 @@ pub fn run_tape<C: Store, R: Store, O: RightsOrder>(
     let read = read_tape(heap, tape)?;
     let requests = read.requests.as_slice();
     let answers = answer_all(heap, cells, rights, order, policies, requests)?;
-    match write_tape_lines(answers.as_slice(), read.fault, buffer) {
-        Ok(length) => Ok(length),
-        Err(refusal) => Err(TapeError::Lines(refusal)),
-    }
+    write_tape_lines(answers.as_slice(), read.fault_values(), buffer).map_err(TapeError::Lines)
 }

@@ -1,29 +1,27 @@
 // The lines of a tape's answers, and of its fault.
 ghost use Rattle.std.specs.Prelude.{◌≡◌};
-ghost use Rattle.std.specs.Option.{option_map};
 ghost use Rattle.protocol.specs.Refusals.{outcome};
 ghost use Rattle.records.specs.Buffers.{put_answer};
-ghost use Rattle.records.specs.Faults.{fault_values};
 ghost use Rattle.tape.specs.Runs.{tape_lines, lines_after};
 
 use lines::{write_fault_line, write_lines};
 use protocol::{Answer, Refusal};
-use records::TapeFault;
+use records::FaultValues;
 
 // Where they exceed the buffer, it has the lines of the answers that fit, and later bytes stay.
 pub fn write_tape_lines(
     answers: &[Answer],
-    fault: Option<TapeFault>,
+    fault: Option<FaultValues>,
     buffer: &mut [u8],
 ) -> Result<usize, Refusal>
-    ensures answer { outcome result ≡ put_answer (tape_lines answers.now (option_map fault_values fault)) buffer.old }
-    ensures after { buffer.new ≡ lines_after answers.now (option_map fault_values fault) buffer.old }
+    ensures answer { outcome result ≡ put_answer (tape_lines answers.now fault) buffer.old }
+    ensures after { buffer.new ≡ lines_after answers.now fault buffer.old }
 {
     let written = write_lines(answers, buffer)?;
     match fault {
         None => Ok(written),
-        Some(fault) => {
-            let more = write_fault_line(fault.values(), &mut buffer[written..])?;
+        Some(values) => {
+            let more = write_fault_line(values, &mut buffer[written..])?;
             Ok(written + more)
         }
     }

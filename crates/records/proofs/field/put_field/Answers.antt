@@ -1,20 +1,15 @@
-use Rattle.std.proofs.Common.{◌≡◌, ◌+◌, ◌-◌, ◌≤◌, length, get_or, set, ◌∙◌, ap₂, arith}
+use Rattle.std.proofs.Common.{◌≡◌, ◌+◌, ◌-◌, [], ◌∷◌, ◌++◌, length, get_or, drop, refl, ◌∙◌, ap, ap₂, arith}
 use borrow.Rule.Slice.PartMut.{put_mid}
-use Rattle.protocol.specs.Bytes.{field_bytes}
-use Rattle.records.proofs.Buffers.{put_length, put_three}
+use Rattle.protocol.specs.Bytes.{two_bytes}
+use Rattle.records.proofs.Buffers.{put_behind}
 use Rattle.records.proofs.field.put_field.Goals as goal
 
-pub returns : goal.returns
-returns c =
+pub returns-clause-after : goal.returns-clause-after
+returns-clause-after c =
     let buffer = c.args.buffer.now in
     let content = c.args.content.now in
-    let tag = c.args.tag in
     let k : 3 + length content - 3 ≡ length content = omega arith in
-    let room : 3 + length content ≤ length buffer = omega arith in
-    let size = c.to_be_bytes.ensures in
-    record {
-      answer = put_length (field_bytes tag content) buffer _ (omega arith) (omega arith);
-      after =
-          ap₂ (λ bs part. put_mid 3 (3 + length content - 3) (set (set (set buffer 0 tag) 1 (get_or bs 0 0)) 2 (get_or bs 1 0)) part) size c.copy_from_slice.ensures.after
-          ∙ put_three buffer content tag _ _ _ k room;
-    }
+    let head = c.args.tag ∷ two_bytes (length content) in
+    let front : c.copy_from_slice.new.self ≡ head = c.copy_from_slice.ensures.after ∙ ap (λ bs. c.args.tag ∷ get_or bs 0 0 ∷ get_or bs 1 0 ∷ []) c.to_be_bytes.ensures in
+    ap₂ (λ hs cs. put_mid 3 (3 + length content - 3) (hs ++ drop 3 buffer) cs) front c.copy_from_slice-2.ensures.after
+    ∙ put_behind head content buffer 3 _ refl k (omega arith)

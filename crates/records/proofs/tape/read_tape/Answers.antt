@@ -1,13 +1,8 @@
 use Rattle.std.proofs.Common.{◌≡◌, ◌+◌, ◌-◌, ◌<◌, ◌≤◌, [], ◌∷◌, length, take, Some, vec_items, vec_len, sym, refl, ap, ◌∙◌, ap₂, rules}
 use Rattle.std.proofs.lemmas.Slice.{pushed}
 use Rattle.records.specs.Faults.{fault_values}
-use Rattle.records.specs.Tapes.{tape_bytes}
-use Rattle.records.specs.declared.fault.FaultValues.{FaultValues}
-use Rattle.records.proofs.Tapes.{read_on, read_end, read_stop, tape_read, tape_short, tape_long}
+use Rattle.records.proofs.Tapes.{read_on, read_end, read_stop, tape_read, tape_short}
 use Rattle.records.proofs.tape.read_tape.Goals as goal
-
-abbrev too_long : FaultValues
-too_long = record { fault = 13; number = 0; start = 0 }
 
 pub loop-left-preserved : goal.loop-left-preserved
 loop-left-preserved c =
@@ -17,12 +12,6 @@ loop-left-preserved c =
     let long : vec_len c.push.new.self ≡ vec_len v + 1 = search rules in
     let e = c.in-Ok.ensures in
     read_on c.args.bytes.now c.loop-left.left.now (vec_items v) (vec_len v) c.loop-left.invariant _ _ c.in-Ok.rest.now q more long e.reads e.one_record
-
-pub returns-then-bytes-gt60000 : goal.returns-then-bytes-gt60000
-returns-then-bytes-gt60000 c =
-    let bytes = c.args.bytes.now in
-    let none = c.new-requests.ensures.items in
-    tape_read bytes _ (ap (λ rs. record { requests = rs; fault = Some too_long }) none ∙ tape_long bytes c.if-bytes-gt60000.true) (ap tape_bytes none)
 
 pub returns-in-Err : goal.returns-in-Err
 returns-in-Err c =
