@@ -1,5 +1,5 @@
 -- What a loop does to each element of a list, one after another.
-use Rattle.std.proofs.Common.{◌≡◌, ℕ, ◌+◌, ◌<◌, ◌≤◌, ◌≢◌, ◌⊎◌, List, length, get_or, set, sym, refl, ◌∙◌, subst, inl, inr, arith}
+use Rattle.std.proofs.Common.{◌≡◌, ℕ, ◌+◌, ◌<◌, ◌≤◌, ◌≢◌, ◌⊎◌, List, length, get_or, set, sym, ◌∙◌, subst, inl, inr, arith}
 use Rattle.std.proofs.lemmas.List.{get_or-set_same, get_or-set_other, get_or_past, get_or_default}
 use Rattle.std.proofs.lemmas.Bool.{cases_eq, cases_lt}
 
@@ -7,9 +7,6 @@ module _ {A : Type 0} (R : A → A → Type 0) (d : A) where
   -- The elements below n are changed as R says, and the others stand.
   abbrev pub Front : ℕ → List A → List A → Type 0
   Front n xs ys = ((k : ℕ) → k < n → R (get_or xs k d) (get_or ys k d)) × ((k : ℕ) → n ≤ k → get_or ys k d ≡ get_or xs k d)
-
-  pub front_none : (xs : List A) → Front 0 xs xs
-  front_none xs = (λ k h. absurd (omega arith), λ k h. refl)
 
   pub front_more : (xs ys : List A) (n : ℕ) (z e : A) → n < length ys → Front n xs ys → R (get_or ys n e) z → Front (n + 1) xs (set ys n z)
   front_more xs ys n z e lt f r = (λ k h. below k h (cases_eq k n), λ k h. get_or-set_other ys n k z d (omega arith) ∙ f.1 k (omega arith))

@@ -1,5 +1,5 @@
 pub mod Each
-pub mod NoLocks
 pub mod Tables
 pub mod Says
 pub mod Asking
+pub mod OnRow

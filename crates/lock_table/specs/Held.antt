@@ -1,14 +1,13 @@
 -- What the table means: who holds which lock. And what asking for a lock comes to, in the words of the machine.
 use Rattle.std.specs.Prelude.{◌≡◌, ℕ, Bool, true, false, not, ◌&&◌, ◌||◌, Ok, Err, Result, ◌==◌, nat_lt}
-use Rattle.protocol.specs.declared.refusal.Refusal.{Refusal}
-use Rattle.protocol.specs.declared.refusal.Refusal.TheVariants.{Absent}
 use Rattle.locking.specs.Slots.{has}
 use Rattle.locking.specs.Locks.{counts, Waits}
-use Rattle.serial.specs.Locks.{Lock, on_cell, on_policy, same_lock, locks_beside, held_say}
+use Rattle.serial.specs.Locks.{Lock, OnCell, OnPolicy, same_lock, locks_beside, held_say}
 use Rattle.serial.specs.Model.{is_conflict, is_signal}
 use Rattle.lock_table.specs.Rows.{held_by}
-use Rattle.lock_table.specs.declared.decision.Decision.{Decision}
-use Rattle.lock_table.specs.declared.decision.Decision.TheVariants.{Wait, Grant}
+use Rattle.locking.specs.declared.slot_set.SlotSet.{SlotSet}
+use Rattle.lock_table.specs.declared.not_granted.NotGranted.{NotGranted}
+use Rattle.lock_table.specs.declared.not_granted.NotGranted.TheVariants.{Absent, Blocked}
 use Rattle.lock_table.specs.declared.lock_table.LockTable.{LockTable}
 
 abbrev pub held : LockTable → ℕ → Lock → Bool
@@ -16,8 +15,8 @@ held t k lock = held_by t.cells t.policies k lock
 
 -- There is a row for the lock.
 abbrev pub has_row : Lock → Bool
-has_row (on_cell mode cell) = nat_lt cell 256
-has_row (on_policy mode policy) = nat_lt policy 64
+has_row (OnCell mode cell) = nat_lt cell 256
+has_row (OnPolicy mode policy) = nat_lt policy 64
 
 module _ (holds : ℕ → Lock → Bool) (asked : Lock) (asker : ℕ) where
   -- The worst that the locks of slot k say to the asker; a slot's own locks never count, and none does where it holds the lock already.
@@ -34,7 +33,12 @@ module _ (holds : ℕ → Lock → Bool) (asked : Lock) (asker : ℕ) where
     pub locks_after : (k : ℕ) (l : Lock) → after k l ≡ ((same_lock l asked && k == asker) || (holds k l && not (struck k)))
 
 -- What asking comes to; where there is no row, it is refused. To wait or to be refused is to leave all as it is.
-abbrev pub Asked : LockTable → Lock → ℕ → Result Decision Refusal → LockTable → Type 0
-Asked t lock asker (Ok (Wait blockers)) t' = (has_row lock ≡ true) × Waits (conflicts (held t) lock asker) (has blockers.mask) × (t' ≡ t)
-Asked t lock asker (Ok (Grant struck)) t' = (has_row lock ≡ true) × Granted (held t) lock asker (held t') (has struck.mask)
-Asked t lock asker (Err f) t' = (has_row lock ≡ false) × (f ≡ Absent) × (t' ≡ t)
+abbrev pub Asked : LockTable → Lock → ℕ → Result SlotSet NotGranted → LockTable → Type 0
+Asked t lock asker (Ok struck) t' = (has_row lock ≡ true) × Granted (held t) lock asker (held t') (has struck.mask)
+Asked t lock asker (Err (Blocked blocked)) t' = (has_row lock ≡ true) × Waits (conflicts (held t) lock asker) (has blocked.by.mask) × (t' ≡ t)
+Asked t lock asker (Err Absent) t' = (has_row lock ≡ false) × (t' ≡ t)
+
+-- The same, where those struck have not yet lost their locks on every row.
+abbrev pub AskedOnRow : LockTable → Lock → ℕ → Result SlotSet NotGranted → LockTable → Type 0
+AskedOnRow t lock asker (Ok struck) t' = (has_row lock ≡ true) × Granted (held t) lock asker (λ k l. held t' k l && not (has struck.mask k)) (has struck.mask)
+AskedOnRow t lock asker (Err e) t' = Asked t lock asker (Err e) t'

@@ -1,4 +1,4 @@
-pub mod Words
 pub mod Rows
 pub mod Held
 pub mod Released
+pub mod Asked

@@ -1,41 +1,64 @@
-// Slots that lose their locks on many rows.
-ghost use Rattle.std.specs.Prelude.{◌≡◌, ℕ, not, ◌&&◌, length, slice_index_or};
+// Rows of one kind, for the cells or for the policies: asked, read and released one by one.
+ghost use Rattle.std.specs.Prelude.{◌≡◌, ℕ, ◌<◌, false, ◌&&◌, MatchOption, length, slice_index_or};
 ghost use Rattle.locking.specs.Slots.{has};
-ghost use Rattle.lock_table.specs.Rows.{no_cell, no_policy};
-ghost use Rattle.lock_table.specs.Released.{CellReleased, PolicyReleased};
+ghost use Rattle.lock_table.specs.Asked.{RowAsked};
+ghost use Rattle.lock_table.specs.Released.{Released};
 
-use locking::{CellLocks, CellRow, PolicyLocks, PolicyRow, SlotSet};
+use crate::not_granted::NotGranted;
+use locking::{Granted, LockRow, Locks, SlotIndex, SlotSet};
 
-fn release_cell(row: CellRow, gone: SlotSet) -> CellRow
-    ensures { CellReleased (has gone.mask) row result }
+// The locks of the row, if there is such a row.
+fn locks_at<R: LockRow>(rows: &[R], at: u16) -> Option<Locks<R>>
+    ensures { MatchOption result
+        (at < length rows.now → R.compatible (slice_index_or rows.now at R.none) → ⊥)
+        (λ locks. (at < length rows.now) × (locks.row ≡ slice_index_or rows.now at R.none)) }
 {
-    match CellLocks::from_row(row) {
+    let row = rows.get(at as usize)?;
+    Locks::from_row(*row)
+}
+
+// Where there is no such row, or it is not compatible, nobody holds a lock.
+pub fn holds_at<R: LockRow>(rows: &[R], at: u16, mode: R::Mode, slot: SlotIndex) -> bool
+    ensures { R.compatible (slice_index_or rows.now at R.none) → result ≡ R.holds (slice_index_or rows.now at R.none) mode slot.at }
+{
+    // A match, since a closure given to `is_some_and` gets no proof that `holds` may be called there.
+    match locks_at(rows, at) {
+        Some(locks) => locks.holds(mode, slot),
+        None => false,
+    }
+}
+
+// To wait, or to be refused for want of such a row, is to leave all rows as they are.
+pub fn ask_at<R: LockRow>(
+    rows: &mut [R],
+    at: u16,
+    mode: R::Mode,
+    slot: SlotIndex,
+) -> Result<SlotSet, NotGranted>
+    ensures { RowAsked R.LockRow R.Mode.eq rows.old at mode slot.at result rows.new }
+{
+    let Some(locks) = locks_at(rows, at) else {
+        return Err(NotGranted::Absent);
+    };
+    let Granted { locks, struck } = locks.ask(mode, slot)?;
+    rows[at as usize] = locks.to_row();
+    Ok(struck)
+}
+
+fn release_row<R: LockRow>(row: R, gone: SlotSet) -> R
+    ensures { Released R.LockRow (has gone.mask) row result }
+{
+    match Locks::from_row(row) {
         Some(locks) => locks.release_all(gone).to_row(),
         None => row,
     }
 }
 
-fn release_policy(row: PolicyRow, gone: SlotSet) -> PolicyRow
-    ensures { PolicyReleased (has gone.mask) row result }
-{
-    match PolicyLocks::from_row(row) {
-        Some(locks) => locks.release_all(gone).to_row(),
-        None => row,
-    }
-}
-
-pub fn release_cells(rows: &mut [CellRow], gone: SlotSet)
-    ensures { (c : ℕ) → CellReleased (has gone.mask) (slice_index_or rows.old c no_cell) (slice_index_or rows.new c no_cell) }
+// The slots of the set lose their locks.
+pub fn release_rows<R: LockRow>(rows: &mut [R], gone: SlotSet)
+    ensures { (i : ℕ) → Released R.LockRow (has gone.mask) (slice_index_or rows.old i R.none) (slice_index_or rows.new i R.none) }
 {
     for row in rows.iter_mut() {
-        *row = release_cell(*row, gone);
-    }
-}
-
-pub fn release_policies(rows: &mut [PolicyRow], gone: SlotSet)
-    ensures { (p : ℕ) → PolicyReleased (has gone.mask) (slice_index_or rows.old p no_policy) (slice_index_or rows.new p no_policy) }
-{
-    for row in rows.iter_mut() {
-        *row = release_policy(*row, gone);
+        *row = release_row(*row, gone);
     }
 }

@@ -1,4 +1,2 @@
 pub mod BitLaws
-pub mod CellLaws
 pub mod LockLaws
-pub mod PolicyLaws

@@ -1,5 +1,7 @@
 -- What a lock held by another transaction (first) says to a lock asked for (second), on the same cell or policy.
-use Rattle.std.specs.Prelude.{ℕ, Bool, ◌==◌}
+use Rattle.std.specs.Prelude.{ℕ, Bool}
+use denote.Enum.Bare.{sameb}
+use Rattle.locking.specs.contracts.mode.LockAnswer.{the_type}
 use Rattle.locking.specs.declared.mode.CellMode.{CellMode}
 use Rattle.locking.specs.declared.mode.CellMode.TheVariants.{ReadCell, WriteCell}
 use Rattle.locking.specs.declared.mode.PolicyMode.{PolicyMode}
@@ -27,30 +29,9 @@ policy_says Deploy Relax = Compatible
 policy_says Deploy Restrict = Signal
 policy_says Deploy Deploy = Compatible
 
--- Answers and modes are told apart by their numbers.
-abbrev pub answer_number : LockAnswer → ℕ
-answer_number Compatible = 0
-answer_number Conflict = 1
-answer_number Signal = 2
-
+-- the derived `==` of answers
 abbrev pub same_answer : LockAnswer → LockAnswer → Bool
-same_answer a b = answer_number a == answer_number b
-
-abbrev pub cell_number : CellMode → ℕ
-cell_number ReadCell = 0
-cell_number WriteCell = 1
-
-abbrev pub same_cell_mode : CellMode → CellMode → Bool
-same_cell_mode m n = cell_number m == cell_number n
-
-abbrev pub policy_number : PolicyMode → ℕ
-policy_number ReadPolicy = 0
-policy_number Relax = 1
-policy_number Restrict = 2
-policy_number Deploy = 3
-
-abbrev pub same_policy_mode : PolicyMode → PolicyMode → Bool
-same_policy_mode m n = policy_number m == policy_number n
+same_answer = sameb the_type
 
 abbrev pub lock_number : Lock → ℕ
 lock_number (OnCell m i) = i

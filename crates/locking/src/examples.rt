@@ -2,7 +2,9 @@
 ghost use Rattle.std.specs.Prelude.{◌≡◌, true};
 ghost use Rattle.locking.specs.Examples.{ExamplesStand};
 
-use crate::mode::{LockAnswer, PolicyMode, policy_answer};
+use crate::mode::{LockAnswer, PolicyMode};
+use crate::policy::PolicyRow;
+use crate::row::LockRow;
 use rights::{ChangeKind, LadderOrder, Operation, RightsOrder, VectorOrder, change_of};
 
 fn vector_agrees() -> bool
@@ -32,9 +34,9 @@ fn ladder_agrees() -> bool
 fn locks_agree() -> bool
     ensures { result ≡ true }
 {
-    policy_answer(PolicyMode::Deploy, PolicyMode::Relax) == LockAnswer::Compatible
-        && policy_answer(PolicyMode::Deploy, PolicyMode::Restrict) == LockAnswer::Signal
-        && policy_answer(PolicyMode::Relax, PolicyMode::Deploy) == LockAnswer::Conflict
+    PolicyRow::answer(PolicyMode::Deploy, PolicyMode::Relax) == LockAnswer::Compatible
+        && PolicyRow::answer(PolicyMode::Deploy, PolicyMode::Restrict) == LockAnswer::Signal
+        && PolicyRow::answer(PolicyMode::Relax, PolicyMode::Deploy) == LockAnswer::Conflict
 }
 
 // Whether the calls answer every example as it should be answered.

@@ -1,21 +1,18 @@
 // What is done alike with locks on cells and on policies. Those that many slots may hold are a mask; one that a single slot may hold is that slot's number, or 16 for nobody.
 ghost use Rattle.std.specs.Prelude.{◌≡◌, ℕ, ◌≤◌, not, ◌&&◌, Decides};
 ghost use Rattle.locking.specs.Slots.{has, with_bit, is_holder};
-ghost use Rattle.locking.specs.Locks.{Beside, says_so};
+ghost use Rattle.locking.specs.Locks.{Beside};
 
-use crate::mode::LockAnswer;
 use crate::slot::SlotIndex;
 use crate::slot_set::SlotSet;
 
+// A number, as the rows of the table are plain numbers by a rule of the project.
 pub(crate) const NOBODY: u8 = 16;
 
 pub(crate) fn holder_set(holder: u8) -> SlotSet
     ensures { (k : ℕ) → has result.mask k ≡ is_holder holder k }
 {
-    match SlotIndex::new(holder as usize) {
-        Some(slot) => SlotSet::empty().with(slot),
-        None => SlotSet::empty(),
-    }
+    SlotIndex::new(holder as usize).map_or(SlotSet::empty(), SlotSet::only)
 }
 
 // Whether none but the holder, if there is one, is in the set.
@@ -49,15 +46,4 @@ pub(crate) fn mask_without(mask: u16, gone: SlotSet) -> u16
     ensures { (k : ℕ) → has result k ≡ (has mask k && not (has gone.mask k)) }
 {
     SlotSet::from_mask(mask).minus(gone).to_mask()
-}
-
-// The holders of a lock that says one thing, if it is this answer.
-pub(crate) fn saying(holders: SlotSet, said: LockAnswer, answer: LockAnswer) -> SlotSet
-    ensures { (k : ℕ) → has result.mask k ≡ says_so (has holders.mask) said answer k }
-{
-    if said == answer {
-        holders
-    } else {
-        SlotSet::empty()
-    }
 }

@@ -4,14 +4,18 @@
 mod cell;
 mod examples;
 mod holder;
+mod locks;
 mod mode;
 mod policy;
+mod row;
 mod slot;
 mod slot_set;
 
-pub use cell::{CellDecision, CellLocks, CellRow};
+pub use cell::{CellLocks, CellRow};
 pub use examples::examples_stand;
-pub use mode::{CellMode, Lock, LockAnswer, PolicyMode, cell_answer, policy_answer};
-pub use policy::{PolicyDecision, PolicyLocks, PolicyRow};
+pub use locks::{Blocked, Granted, Locks};
+pub use mode::{CellMode, Lock, LockAnswer, PolicyMode};
+pub use policy::{PolicyLocks, PolicyRow};
+pub use row::LockRow;
 pub use slot::SlotIndex;
 pub use slot_set::SlotSet;

@@ -1,16 +1,14 @@
-// Lock modes, and what a lock that another transaction holds says to a lock that is asked for.
+// Lock modes, and what a lock may answer to another.
 ghost use Rattle.std.specs.Prelude.{◌≡◌};
-ghost use Rattle.locking.specs.Modes.{cell_says, policy_says, lock_number};
+ghost use Rattle.locking.specs.Modes.{lock_number};
 
-use LockAnswer::{Compatible, Conflict, Signal};
-
-#[derive(Clone, Copy)]
+#[derive(Clone, Copy, PartialEq, Eq, Debug)]
 pub enum CellMode {
     ReadCell,
     WriteCell,
 }
 
-#[derive(Clone, Copy)]
+#[derive(Clone, Copy, PartialEq, Eq, Debug)]
 pub enum PolicyMode {
     ReadPolicy,
     Relax,
@@ -19,7 +17,7 @@ pub enum PolicyMode {
 }
 
 // A lock, by its mode and the number of the cell or the policy.
-#[derive(Clone, Copy)]
+#[derive(Clone, Copy, PartialEq, Eq, Debug)]
 pub enum Lock {
     OnCell(CellMode, u16),
     OnPolicy(PolicyMode, u16),
@@ -36,7 +34,8 @@ impl Lock {
     }
 }
 
-#[derive(Clone, Copy, PartialEq, Eq)]
+// What a lock that another transaction holds says to a lock that is asked for.
+#[derive(Clone, Copy, PartialEq, Eq, Debug)]
 pub enum LockAnswer {
     // Yes: both may be held.
     Compatible,
@@ -44,26 +43,4 @@ pub enum LockAnswer {
     Conflict,
     // The holder is struck.
     Signal,
-}
-
-// By the held mode, then the asked one.
-const CELL_TABLE: [[LockAnswer; 2]; 2] = [[Compatible, Conflict], [Conflict, Conflict]];
-
-const POLICY_TABLE: [[LockAnswer; 4]; 4] = [
-    [Compatible, Conflict, Conflict, Compatible], // read
-    [Conflict, Conflict, Conflict, Conflict], // relax
-    [Conflict, Conflict, Conflict, Conflict], // restrict
-    [Compatible, Compatible, Signal, Compatible], // deploy
-];
-
-pub fn cell_answer(held: CellMode, asked: CellMode) -> LockAnswer
-    ensures { result ≡ cell_says held asked }
-{
-    CELL_TABLE[held as usize][asked as usize]
-}
-
-pub fn policy_answer(held: PolicyMode, asked: PolicyMode) -> LockAnswer
-    ensures { result ≡ policy_says held asked }
-{
-    POLICY_TABLE[held as usize][asked as usize]
 }

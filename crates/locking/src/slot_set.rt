@@ -4,12 +4,13 @@ ghost use Rattle.locking.specs.Slots.{has, with_bit, without_bit, count_below};
 
 use crate::slot::SlotIndex;
 
-#[derive(Clone, Copy)]
+#[derive(Clone, Copy, PartialEq, Eq, Debug)]
 pub struct SlotSet {
     mask: u16,
 }
 
 impl SlotSet {
+    #[tactic(auto, using(crate::specs::NoLocks::has_zero))]
     pub fn empty() -> SlotSet
         ensures { (k : ℕ) → has result.mask k ≡ false }
     {
@@ -19,9 +20,12 @@ impl SlotSet {
     pub fn only(slot: SlotIndex) -> SlotSet
         ensures { (k : ℕ) → has result.mask k ≡ (k == slot.at) }
     {
-        SlotSet::empty().with(slot)
+        SlotSet {
+            mask: 1 << slot.get(),
+        }
     }
 
+    // By name and no From, here and back, as the number alone does not say that it is a mask.
     pub(crate) fn from_mask(mask: u16) -> SlotSet
         ensures { result.mask ≡ mask }
     {
@@ -44,19 +48,16 @@ impl SlotSet {
     pub(crate) fn with(self, slot: SlotIndex) -> SlotSet
         ensures { (k : ℕ) → has result.mask k ≡ with_bit (has self.mask) slot.at k }
     {
-        SlotSet {
-            mask: self.mask | 1 << slot.get(),
-        }
+        self.union(SlotSet::only(slot))
     }
 
     pub(crate) fn without(self, slot: SlotIndex) -> SlotSet
         ensures { (k : ℕ) → has result.mask k ≡ without_bit (has self.mask) slot.at k }
     {
-        SlotSet {
-            mask: self.mask & !(1 << slot.get()),
-        }
+        self.minus(SlotSet::only(slot))
     }
 
+    #[tactic(auto, using(crate::proofs::BitLaws::has_or))]
     pub(crate) fn union(self, other: SlotSet) -> SlotSet
         ensures { (k : ℕ) → has result.mask k ≡ (has self.mask k || has other.mask k) }
     {
@@ -66,6 +67,7 @@ impl SlotSet {
     }
 
     // Those of this set that are not in the other.
+    #[tactic(auto, using(crate::proofs::BitLaws::has_minus))]
     pub(crate) fn minus(self, other: SlotSet) -> SlotSet
         ensures { (k : ℕ) → has result.mask k ≡ (has self.mask k && not (has other.mask k)) }
     {

@@ -1,21 +1,19 @@
 -- The theorem about one worked day, and the steps of a loop that makes one call after the other.
-use Rattle.std.proofs.Common.{◌≡◌, ℕ, suc, ◌+◌, ◌<◌, List, [], ◌∷◌, ◌++◌, length, get_or, take, set, sym, refl, ap, ◌∙◌, subst, ap₂, inl, inr, arith}
+use Rattle.std.proofs.Common.{◌≡◌, ℕ, ◌+◌, ◌<◌, List, [], ◌∷◌, ◌++◌, length, get_or, take, set, sym, refl, ap, ◌∙◌, subst, ap₂, inl, inr, arith}
 use Rattle.std.proofs.lemmas.List.{take_more, take_more_set, length-append}
 use Rattle.protocol.specs.declared.request.Request.{Request}
 use Rattle.protocol.specs.declared.answer.Answer.{Answer}
 use Rattle.serial.specs.Words.{Setup, Laws, Store}
 use Rattle.serial.specs.Model.{State, step, answer, after}
-use Rattle.serial.specs.Serial.{Replays}
-use Rattle.serial.specs.History.{Event, History, transcript, Run, start, then, Admitted}
+use Rattle.serial.specs.History.{Event, History, Run, start, then, Admitted}
 use Rattle.serial.specs.Day.{Strikes, StruckIn, RunsAreSerial}
 use Rattle.serial.specs.OneDay.{recorded, history, morning, Moment, IsMomentOf, DayDone, Worked, EveryDayIsDone}
-use Rattle.serial.proofs.Basics.{never}
 use Rattle.serial.proofs.Main.{day_is_serial}
 
 -- no event is in the empty history
 empty : {A : Type 0} (later : History) (e : Event) (earlier : History) → [] ≡ later ++ (e ∷ earlier) → A
-empty [] e earlier q = never (cc)
-empty (l ∷ later) e earlier q = never (cc)
+empty [] e earlier q = cc
+empty (l ∷ later) e earlier q = cc
 
 -- the moments of a day
 
@@ -27,12 +25,10 @@ record Found (S : Setup) (σ₀ : State) (e : Event) (earlier : History) : Type 
 found : (S : Setup) (σ₀ : State) {h : History} {σ : State} → Run S σ₀ h σ → (later : History) (e : Event) (earlier : History) → h ≡ later ++ (e ∷ earlier) → Found S σ₀ e earlier
 found S σ₀ start later e earlier q = empty later e earlier q
 found S σ₀ (then {h = h} {σ = σ} run r) [] e earlier q =
-    let head : record { request = r; answer = answer S σ r } ≡ e = cc in
     let tail : h ≡ earlier = cc in
-    record { state = σ; run = subst (λ l. Run S σ₀ l σ) tail run; answered = sym (ap (λ x. answer S σ x.request) head) ∙ ap (λ x. x.answer) head }
+    record { state = σ; run = rw tail at run; answered = cc }
 found S σ₀ (then {h = h} run r) (l ∷ later) e earlier q =
-    let tail : h ≡ later ++ (e ∷ earlier) = cc in
-    found S σ₀ run later e earlier tail
+    found S σ₀ run later e earlier (cc)
 
 pub moment_of : (S : Setup) (σ₀ : State) {h : History} {σ : State} → Run S σ₀ h σ → (later : History) (e : Event) (earlier : History) → h ≡ later ++ (e ∷ earlier)
     → (m : Moment S σ₀ h) × IsMomentOf m later e earlier
@@ -52,12 +48,11 @@ moment_of S σ₀ run later e earlier q =
 -- a history leads to one state only
 pub run_ends : (S : Setup) (σ₀ : State) {h k : History} {σ τ : State} → h ≡ k → Run S σ₀ h σ → Run S σ₀ k τ → σ ≡ τ
 run_ends S σ₀ q start start = refl
-run_ends S σ₀ q start (then run r) = never (cc)
-run_ends S σ₀ q (then run r) start = never (cc)
+run_ends S σ₀ q start (then run r) = cc
+run_ends S σ₀ q (then run r) start = cc
 run_ends S σ₀ q (then {h = h} {σ = σ} run r) (then {h = k} {σ = τ} other o) =
-    let head : ◌≡◌ {A = Event} (record { request = r; answer = answer S σ r }) (record { request = o; answer = answer S τ o }) = cc in
-    let tail : h ≡ k = cc in
-    ap₂ (after S) (run_ends S σ₀ tail run other) (ap (λ (e : Event). e.request) head)
+    let asked : r ≡ o = grind arith in
+    ap₂ (after S) (run_ends S σ₀ (cc) run other) asked
 
 struck_in : (S : Setup) (σ₀ : State) {h : History} {σ : State} (run : Run S σ₀ h σ) (m : Moment S σ₀ h) (t : ℕ) → Strikes S m.state m.request t
     → StruckIn run t
@@ -68,9 +63,8 @@ struck_in S σ₀ run m t s = go run m.later m.in_day
         → h ≡ later ++ (record { request = m.request; answer = answer S m.state m.request } ∷ m.earlier) → StruckIn run t
     go start later q = empty later _ _ q
     go (then {h = h} {σ = σ} run r) [] q =
-        let head : ◌≡◌ {A = Event} (record { request = r; answer = answer S σ r }) (record { request = m.request; answer = answer S m.state m.request }) = cc in
-        let tail : h ≡ m.earlier = cc in
-        inr (subst (λ (e : Event). Strikes S σ e.request t) (sym head) (subst (λ x. Strikes S x m.request t) (sym (run_ends S σ₀ tail run m.run)) s))
+        let asked : r ≡ m.request = grind arith in
+        inr (rw (asked, run_ends S σ₀ (cc) run m.run) s)
     go (then {h = h} run r) (l ∷ later) q = inl (go run later (cc))
 
 pub day_done : (S : Setup) → Laws S → (before after : Store) → Admitted S (morning before) → (rs : List Request) (bs : List Answer) (σ : State)
@@ -82,7 +76,7 @@ day_done S laws before after adm rs bs σ long run ends = record {
   stores_at_evening = ends;
   serial_executor_grants = all.serial_executor_grants run;
   serial_executor_ends_equal = all.serial_executor_ends_equal run ∙ ends;
-  open_transactions_replay = λ t o. subst (λ s. Replays S s (transcript (history rs bs) t).subject (transcript (history rs bs) t).calls) ends (all.open_transactions_replay run t o);
+  open_transactions_replay = λ t o. rw ends at (all.open_transactions_replay run t o);
   each_event_has_its_moment = moment_of S (morning before) run;
   restriction_strikes_deployers = λ m. all.restriction_strikes_deployers m.run m.request;
   restriction_counts_struck = λ m. all.restriction_counts_struck m.run m.request;
@@ -110,10 +104,10 @@ run_on run (then more r) = then (run_on run more) r
 recorded_both : (rs : List Request) (bs : List Answer) (rs' : List Request) (bs' : List Answer) (h : History) → length bs ≡ length rs
     → recorded (rs ++ rs') (bs ++ bs') h ≡ recorded rs' bs' (recorded rs bs h)
 recorded_both [] [] rs' bs' h e = refl
-recorded_both [] (b ∷ bs) rs' bs' h e = absurd (let k : suc (length bs) ≡ 0 = e in omega arith)
-recorded_both (r ∷ rs) [] rs' bs' h e = absurd (let k : 0 ≡ suc (length rs) = e in omega arith)
+recorded_both [] (b ∷ bs) rs' bs' h e = cc
+recorded_both (r ∷ rs) [] rs' bs' h e = cc
 recorded_both (r ∷ rs) (b ∷ bs) rs' bs' h e =
-    recorded_both rs bs rs' bs' (record { request = r; answer = b } ∷ h) (let k : suc (length bs) ≡ suc (length rs) = e in omega arith)
+    recorded_both rs bs rs' bs' (record { request = r; answer = b } ∷ h) (omega arith)
 
 module _ {S : Setup} {σ : State} where
   pub worked_none : Worked S σ [] [] σ
@@ -123,8 +117,8 @@ module _ {S : Setup} {σ : State} where
   pub worked_on : {rs rs' : List Request} {bs bs' : List Answer} {τ υ : State} → Worked S σ rs bs τ → Worked S τ rs' bs' υ
       → Worked S σ (rs ++ rs') (bs ++ bs') υ
   worked_on {rs} {rs'} {bs} {bs'} {υ = υ} w v = record {
-    all_answered = length-append bs bs' ∙ ap₂ ◌+◌ w.all_answered v.all_answered ∙ sym (length-append rs rs');
-    goes_on = λ {σ₀} {h} run. subst (λ l. Run S σ₀ l υ) (sym (recorded_both rs bs rs' bs' h w.all_answered)) (v.goes_on (w.goes_on run));
+    all_answered = simp (length-append, w.all_answered, v.all_answered);
+    goes_on = λ {σ₀} {h} run. rw (recorded_both rs bs rs' bs' h w.all_answered) (v.goes_on (w.goes_on run));
   }
 
   pub worked_one : {τ : State} {a : Answer} (r : Request) → (a, τ) ≡ step S σ r → Worked S σ (r ∷ []) (a ∷ []) τ
@@ -137,7 +131,7 @@ module _ {S : Setup} {σ : State} where
   pub run_worked : {rs : List Request} {bs : List Answer} {τ : State} → length bs ≡ length rs → Run S σ (history rs bs) τ → Worked S σ rs bs τ
   run_worked {rs} {bs} {τ} long more = record {
     all_answered = long;
-    goes_on = λ {σ₀} {h} run. subst (λ l. Run S σ₀ l τ) (sym (recorded_above rs bs [] h)) (run_on run more);
+    goes_on = λ {σ₀} {h} run. rw (recorded_above rs bs [] h) (run_on run more);
   }
 
   pub worked_run : {rs : List Request} {bs : List Answer} {τ : State} → Worked S σ rs bs τ → Run S σ (history rs bs) τ

@@ -1,32 +1,24 @@
 -- The outcomes of a request, one by one.
-use Rattle.std.proofs.Common.{◌≡◌, ℕ, suc, Bool, true, false, ltb, length, Some, None, Option, sym, refl, subst}
+use Rattle.std.proofs.Common.{◌≡◌, ℕ, suc, Bool, true, false, ltb, length, Some, None, Option, refl, arith}
 use Rattle.protocol.specs.declared.refusal.Refusal.{Refusal}
 use Rattle.protocol.specs.declared.refusal.Refusal.TheVariants.{TooManyOpened, NoFreeSlot, NoSuchTransaction}
 use Rattle.protocol.specs.declared.answer.Answer.{Answer}
 use Rattle.protocol.specs.declared.answer.Answer.TheVariants.{Granted, Refused, Wait, Aborted}
 use Rattle.protocol.specs.declared.request.Request.{Request}
 use Rattle.serial.specs.Words.{Setup, Call}
-use Rattle.serial.specs.Changes.{apply}
-use Rattle.serial.specs.Requests.{asks_open, asks_call, asks_commit, asks_give_up, asked}
-use Rattle.serial.specs.Model.{State, Slot, free, open_slot, aborted_slot, Transaction, find, judge, lock_for, blocker, signalled, call_answer, call_granted, call_unblocked, call_judged, call_in, open_in, commit_in, give_up_in, perform, any_free, place, new_transaction, with_slots, end, answer, after}
-use Rattle.serial.proofs.Basics.{never}
+use Rattle.serial.specs.Requests.{asks_open, asks_call, asked}
+use Rattle.serial.specs.Model.{State, Slot, free, open_slot, aborted_slot, Transaction, find, judge, lock_for, blocker, signalled, call_answer, call_granted, call_unblocked, call_judged, call_in, open_in, perform, any_free, place, new_transaction, with_slots, answer, after}
 use Rattle.serial.proofs.Granted.{called}
 
 abbrev pub Outcome : Type 1
 Outcome = Answer × State → Type 0
 
--- the state after a granted call, a granted open, a granted commit
+-- the state after a granted call, a granted open
 abbrev pub after_call : Setup → State → Transaction → Call → State
 after_call S σ x c = with_slots σ (called x (lock_for S σ.store c) c σ.slots)
 
 abbrev pub after_open : State → ℕ → State
 after_open σ u = record { store = σ.store; slots = place (new_transaction (suc σ.opened) u) σ.slots; opened = suc σ.opened; commits = σ.commits }
-
-abbrev pub after_commit : State → ℕ → Transaction → State
-after_commit σ t x = record { store = apply x.changes σ.store; slots = end t σ.slots; opened = σ.opened; commits = suc σ.commits }
-
-abbrev pub after_end : State → ℕ → State
-after_end σ t = with_slots σ (end t σ.slots)
 
 abbrev pub count : Setup → State → Transaction → Call → ℕ
 count S σ x c = length (signalled x (lock_for S σ.store c) σ.slots)
@@ -42,30 +34,6 @@ pub open_outcome : (P : Outcome) (S : Setup) (σ : State) (u : ℕ) → ((f : Re
     → P (perform S σ (asks_open u))
 unfolding perform
 open_outcome P S σ u deny go = open_by P σ u deny go (ltb σ.opened 50000) (any_free σ.slots) refl
-
-pub commit_outcome : (P : Outcome) (S : Setup) (σ : State) (t : ℕ) → (find t σ.slots ≡ free → P (Refused NoSuchTransaction, σ))
-    → ((i b p : ℕ) → find t σ.slots ≡ aborted_slot i b p → P (Aborted b p, after_end σ t))
-    → ((x : Transaction) → find t σ.slots ≡ open_slot x → P (Granted (suc σ.commits), after_commit σ t x))
-    → P (perform S σ (asks_commit t))
-unfolding perform commit_in
-commit_outcome P S σ t deny gone go = by (find t σ.slots) refl
-  where
-    by : (w : Slot) → find t σ.slots ≡ w → P (commit_in σ t w)
-    by free e = deny e
-    by (open_slot x) e = go x e
-    by (aborted_slot i b p) e = gone i b p e
-
-pub give_up_outcome : (P : Outcome) (S : Setup) (σ : State) (t : ℕ) → (find t σ.slots ≡ free → P (Refused NoSuchTransaction, σ))
-    → ((i b p : ℕ) → find t σ.slots ≡ aborted_slot i b p → P (Aborted b p, after_end σ t))
-    → ((x : Transaction) → find t σ.slots ≡ open_slot x → P (Granted 0, after_end σ t))
-    → P (perform S σ (asks_give_up t))
-unfolding perform give_up_in
-give_up_outcome P S σ t deny gone go = by (find t σ.slots) refl
-  where
-    by : (w : Slot) → find t σ.slots ≡ w → P (give_up_in σ t w)
-    by free e = deny e
-    by (open_slot x) e = go x e
-    by (aborted_slot i b p) e = gone i b p e
 
 pub call_outcome : (P : Outcome) (S : Setup) (σ : State) (t : ℕ) (c : Call) → (find t σ.slots ≡ free → P (Refused NoSuchTransaction, σ))
     → ((i b p : ℕ) → find t σ.slots ≡ aborted_slot i b p → P (Aborted b p, σ))
@@ -91,14 +59,14 @@ call_outcome P S σ t c deny gone refuse wait go = by (find t σ.slots) refl
     by (open_slot x) e = judged x e (judge S σ.store x c) refl
     by (aborted_slot i b p) e = gone i b p e
 
--- a granted call, by its request
-pub granted_call : (P : State → Type 0) (S : Setup) (σ : State) (r : Request) (t : ℕ) (c : Call) (n : ℕ) → asked r ≡ asks_call t c → answer S σ r ≡ Granted n
-    → ((x : Transaction) → find t σ.slots ≡ open_slot x → blocker x (lock_for S σ.store c) σ.slots ≡ None
-    → call_answer σ.store x c (count S σ x c) ≡ n → P (after_call S σ x c))
-    → P (after S σ r)
-granted_call P S σ r t c n k a go =
-    subst (λ i. (perform S σ i).0 ≡ Granted n → P (perform S σ i).1) (sym k)
-    (call_outcome (λ w. w.0 ≡ Granted n → P w.1) S σ t c
-    (λ e g. never (cc)) (λ i b p e g. never (cc)) (λ x f e g. never (cc)) (λ x u e g. never (cc))
-    (λ x e j b g. go x e b (cc)))
-    a
+-- what a call that is answered granted went by, and what it leaves
+pub record WasGranted (S : Setup) (σ : State) (t : ℕ) (c : Call) (n : ℕ) (left : State) : Type 0 where
+  pub caller : Transaction
+  pub found : find t σ.slots ≡ open_slot caller
+  pub unblocked : blocker caller (lock_for S σ.store c) σ.slots ≡ None
+  pub told : call_answer σ.store caller c (count S σ caller c) ≡ n
+  pub leaves : left ≡ after_call S σ caller c
+
+pub granted_call : (S : Setup) (σ : State) (r : Request) (t : ℕ) (c : Call) (n : ℕ) → asked r ≡ asks_call t c → answer S σ r ≡ Granted n → WasGranted S σ t c n (after S σ r)
+unfolding perform call_in call_judged call_unblocked call_granted
+granted_call S σ r t c n k a = grind arith

@@ -3,7 +3,7 @@ use Rattle.std.specs.Prelude.{◌≡◌, ℕ, ◌≢◌, ◌⊎◌, ◌↔◌, L
 use Rattle.protocol.specs.declared.request.Request.{Request}
 use Rattle.protocol.specs.declared.answer.Answer.TheVariants.{Granted, Aborted}
 use Rattle.rights.specs.declared.change.ChangeKind.TheVariants.{Restriction}
-use Rattle.serial.specs.Words.{Setup, Laws, change_kind, deploys, sets, Member}
+use Rattle.serial.specs.Words.{Setup, Laws, change_kind, Deploys, Sets, Member}
 use Rattle.serial.specs.Requests.{Asked, asks_open, asks_call, asks_commit, asks_give_up, asked}
 use Rattle.serial.specs.Model.{State, answer, after}
 use Rattle.serial.specs.Serial.{Replays, serial_store, SerialGrants}
@@ -42,7 +42,7 @@ StruckIn {S} (then {σ = σ} run r) t = StruckIn run t ⊎ Strikes S σ r t
 -- right that the serial executor has after the transactions committed so far.
 abbrev pub Restricts : {S : Setup} {σ₀ : State} {h : History} {σ : State} → Run S σ₀ h σ → Request → ℕ → ℕ → ℕ → Type 0
 Restricts {S} {σ₀} {h} {σ} run r t p n =
-    (v : ℕ) × (asked r ≡ asks_call t (sets p v)) × (answer S σ r ≡ Granted n)
+    (v : ℕ) × (asked r ≡ asks_call t (Sets p v)) × (answer S σ r ≡ Granted n)
     × (change_kind S (slice_index (serial_store S σ₀.store (transcript h) (committed h)).rights p) v ≡ Restriction)
 
 -- The transaction has restricted the policy, and has since neither ended nor been struck.
@@ -77,7 +77,7 @@ pub record RunsAreSerial (S : Setup) (σ₀ : State) : Type 0 where
   pub struck_never_commit : {h : History} {σ : State} (run : Run S σ₀ h σ) (t : ℕ) → StruckIn run t → Member t (committed h) → ⊥
   -- while a transaction restricts a policy, no other is granted a deploy of it
   pub no_deploy_while_restricting : {h : History} {σ : State} (run : Run S σ₀ h σ) (r : Request) (t p u n : ℕ) → Restricting run t p → u ≢ t
-      → asked r ≡ asks_call u (deploys p) → answer S σ r ≢ Granted n
+      → asked r ≡ asks_call u (Deploys p) → answer S σ r ≢ Granted n
   -- only a granted restriction strikes, and only those that have deployed its policy
   pub nothing_else_strikes : {h : History} {σ : State} (run : Run S σ₀ h σ) (r : Request) (t : ℕ) → Strikes S σ r t
       → (u : ℕ) × (p : ℕ) × (n : ℕ) × Restricts run r u p n × Deployers run u p t

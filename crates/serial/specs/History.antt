@@ -7,7 +7,7 @@ use Rattle.protocol.specs.declared.policy.Policy.{Policy}
 use Rattle.protocol.specs.declared.request.Request.{Request}
 use Rattle.protocol.specs.declared.answer.Answer.{Answer}
 use Rattle.protocol.specs.declared.answer.Answer.TheVariants.{Granted, Refused, Wait, Aborted}
-use Rattle.serial.specs.Words.{Setup, Store, Call, deploys, Member}
+use Rattle.serial.specs.Words.{Setup, Store, Call, Deploys, Member}
 use Rattle.serial.specs.Requests.{Asked, asks_open, asks_call, asks_commit, asks_give_up, asked}
 use Rattle.serial.specs.Model.{State, free, answer, after}
 use Rattle.serial.specs.Serial.{Transcript}
@@ -91,7 +91,7 @@ Opens nothing t = ⊥
 
 -- The transaction was granted a deploy of the policy.
 abbrev pub HasDeployed : History → ℕ → ℕ → Type 0
-HasDeployed h t p = (a : ℕ) × Member (record { call = deploys p; answer = a }) (transcript h t).calls
+HasDeployed h t p = (a : ℕ) × Member (record { call = Deploys p; answer = a }) (transcript h t).calls
 
 -- The runs of the engine from a state: each request is answered, and goes into the history with its answer.
 pub data Run (S : Setup) (start_state : State) : History → State → Type 0 where

@@ -18,9 +18,9 @@ use Rattle.locking.specs.declared.mode.PolicyMode.{PolicyMode}
 use Rattle.locking.specs.declared.mode.PolicyMode.TheVariants.{ReadPolicy, Relax, Restrict, Deploy}
 use Rattle.locking.specs.declared.mode.LockAnswer.{LockAnswer}
 use Rattle.locking.specs.declared.mode.LockAnswer.TheVariants.{Compatible, Conflict, Signal}
-use Rattle.serial.specs.Words.{Setup, change_kind, set_operation, same_object, Store, Change, Call, deploys, reads, writes, shows, sets}
+use Rattle.serial.specs.Words.{Setup, change_kind, set_operation, same_object, Store, Change, Call, Deploys, Reads, Writes, Shows, Sets}
 use Rattle.serial.specs.Changes.{put, room, seen, apply}
-use Rattle.serial.specs.Locks.{Lock, on_cell, on_policy, lock_number, same_lock, locks_beside, held_say}
+use Rattle.serial.specs.Locks.{Lock, OnCell, OnPolicy, lock_number, same_lock, locks_beside, held_say}
 use Rattle.serial.specs.Requests.{Asked, asks_open, asks_call, asks_commit, asks_give_up, asked}
 
 -- Transactions, slots and the engine's state
@@ -93,7 +93,7 @@ any_policy f (e ∷ es) = f zero e || any_policy (λ i. f (suc i)) es
 -- Permitted is what some policy that the transaction has deployed, with that object, permits by its right in force.
 unfoldable pub permitted : Setup → Store → Transaction → Object → Operation → Bool
 permitted S s x o op =
-    any_policy (λ i e. x.holds (on_policy Deploy i) && (same_object e.object o && S.permits (slice_index s.rights i) op)) S.policies
+    any_policy (λ i e. x.holds (OnPolicy Deploy i) && (same_object e.object o && S.permits (slice_index s.rights i) op)) S.policies
 
 abbrev pub is_subject : Option Policy → ℕ → Bool
 is_subject None u = false
@@ -105,20 +105,20 @@ unless false f rest = Some f
 
 -- The refusals of an open transaction's calls, in their order. A set is judged by the right in force, whatever the transaction has set before.
 unfoldable pub judge : Setup → Store → Transaction → Call → Option Refusal
-judge S s x (deploys p) =
+judge S s x (Deploys p) =
     unless (nat_lt p (length S.policies)) Absent
     (unless (is_subject (slice_get S.policies p) x.subject) OtherSubject None)
-judge S s x (reads c) =
+judge S s x (Reads c) =
     unless (nat_lt c (length s.cells)) Absent
     (unless (permitted S s x (OfCell c) Read) NotPermitted None)
-judge S s x (writes c v) =
+judge S s x (Writes c v) =
     unless (nat_lt c (length s.cells)) Absent
     (unless (permitted S s x (OfCell c) Write) NotPermitted
     (unless (room x.changes (OfCell c)) TooManyChanges None))
-judge S s x (shows p) =
+judge S s x (Shows p) =
     unless (nat_lt p (length S.policies)) Absent
     (unless (permitted S s x (OfPolicy p) Read) NotPermitted None)
-judge S s x (sets p v) =
+judge S s x (Sets p v) =
     unless (nat_lt p (length S.policies)) Absent
     (unless (S.is_right v) NotARight
     (unless (permitted S s x (OfPolicy p) (set_operation (change_kind S (slice_index s.rights p) v))) NotPermitted
@@ -132,11 +132,11 @@ set_mode Restriction = Restrict
 
 -- The lock that a call asks for
 unfoldable pub lock_for : Setup → Store → Call → Lock
-lock_for S s (deploys p) = on_policy Deploy p
-lock_for S s (reads c) = on_cell ReadCell c
-lock_for S s (writes c v) = on_cell WriteCell c
-lock_for S s (shows p) = on_policy ReadPolicy p
-lock_for S s (sets p v) = on_policy (set_mode (change_kind S (slice_index s.rights p) v)) p
+lock_for S s (Deploys p) = OnPolicy Deploy p
+lock_for S s (Reads c) = OnCell ReadCell c
+lock_for S s (Writes c v) = OnCell WriteCell c
+lock_for S s (Shows p) = OnPolicy ReadPolicy p
+lock_for S s (Sets p v) = OnPolicy (set_mode (change_kind S (slice_index s.rights p) v)) p
 
 -- What the locks of the transaction y say to x, which asks for a lock. A lock that x already holds is granted, and its own locks never count.
 unfoldable pub verdict : Transaction → Lock → Transaction → LockAnswer
@@ -188,11 +188,11 @@ strike x asked (aborted_slot i b p) = aborted_slot i b p
 -- Calls
 
 abbrev pub changed : Call → List Change → List Change
-changed (deploys p) ks = ks
-changed (reads c) ks = ks
-changed (writes c v) ks = put (OfCell c) v ks
-changed (shows p) ks = ks
-changed (sets p v) ks = put (OfPolicy p) v ks
+changed (Deploys p) ks = ks
+changed (Reads c) ks = ks
+changed (Writes c v) ks = put (OfCell c) v ks
+changed (Shows p) ks = ks
+changed (Sets p v) ks = put (OfPolicy p) v ks
 
 -- The transaction with one lock more and the call's change
 unfoldable pub advance : Transaction → Lock → Call → Transaction
@@ -201,11 +201,11 @@ advance x asked c =
 
 -- What a granted call is answered; a set with the number of those it struck
 unfoldable pub call_answer : Store → Transaction → Call → ℕ → ℕ
-call_answer s x (deploys p) n = 0
-call_answer s x (reads c) n = seen s x.changes (OfCell c)
-call_answer s x (writes c v) n = 0
-call_answer s x (shows p) n = seen s x.changes (OfPolicy p)
-call_answer s x (sets p v) n = n
+call_answer s x (Deploys p) n = 0
+call_answer s x (Reads c) n = seen s x.changes (OfCell c)
+call_answer s x (Writes c v) n = 0
+call_answer s x (Shows p) n = seen s x.changes (OfPolicy p)
+call_answer s x (Sets p v) n = n
 
 unfoldable pub call_granted : State → Transaction → Call → Lock → Answer × State
 call_granted σ x c asked = (

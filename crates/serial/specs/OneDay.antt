@@ -3,7 +3,7 @@ use Rattle.std.specs.Prelude.{◌≡◌, ℕ, ◌≢◌, ◌↔◌, List, [], �
 use Rattle.protocol.specs.declared.request.Request.{Request}
 use Rattle.protocol.specs.declared.answer.Answer.{Answer}
 use Rattle.protocol.specs.declared.answer.Answer.TheVariants.{Granted}
-use Rattle.serial.specs.Words.{Setup, Laws, Store, deploys, Member}
+use Rattle.serial.specs.Words.{Setup, Laws, Store, Deploys, Member}
 use Rattle.serial.specs.Requests.{asks_call, asked}
 use Rattle.serial.specs.Model.{State, free, answer}
 use Rattle.serial.specs.Serial.{Replays, serial_store, SerialGrants}
@@ -68,7 +68,7 @@ pub record DayDone (S : Setup) (before after : Store) (requests : List Request) 
       → (us : List ℕ) × NoDuplicate us × ((u : ℕ) → Member u us ↔ Deployers m.run t p u) × (length us ≡ n)
   -- while a transaction restricts a policy, no other is granted a deploy of it
   pub no_deploy_while_restricting : (m : Moment S (morning before) (history requests answers)) (t p u n : ℕ) → Restricting m.run t p → u ≢ t
-      → asked m.request ≡ asks_call u (deploys p) → answer S m.state m.request ≢ Granted n
+      → asked m.request ≡ asks_call u (Deploys p) → answer S m.state m.request ≢ Granted n
   -- only a granted restriction strikes, and only those that have deployed its policy
   pub nothing_else_strikes : (m : Moment S (morning before) (history requests answers)) (t : ℕ) → Strikes S m.state m.request t
       → (u : ℕ) × (p : ℕ) × (n : ℕ) × Restricts m.run m.request u p n × Deployers m.run u p t

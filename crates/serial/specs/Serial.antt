@@ -7,7 +7,7 @@ use Rattle.protocol.specs.declared.policy.Object.TheVariants.{OfCell, OfPolicy}
 use Rattle.protocol.specs.declared.policy.Policy.{Policy}
 use Rattle.rights.specs.declared.order.Operation.{Operation}
 use Rattle.rights.specs.declared.order.Operation.TheVariants.{Read, Write}
-use Rattle.serial.specs.Words.{Setup, change_kind, set_operation, same_object, Store, Change, Call, deploys, reads, writes, shows, sets}
+use Rattle.serial.specs.Words.{Setup, change_kind, set_operation, same_object, Store, Change, Call, Deploys, Reads, Writes, Shows, Sets}
 
 -- A granted call with its answer
 pub record Entry : Type 0 where
@@ -52,28 +52,28 @@ allows S s e o op = any_of (λ i. has_object (slice_get S.policies i) o && S.per
 
 -- Whether a call is granted; a set is a relaxation or a restriction of the right in the list.
 abbrev pub grants_call : Setup → Store → Session → Call → Bool
-grants_call S s e (deploys p) = has_subject (slice_get S.policies p) e.subject
-grants_call S s e (reads c) = allows S s e (OfCell c) Read
-grants_call S s e (writes c v) = allows S s e (OfCell c) Write
-grants_call S s e (shows p) = allows S s e (OfPolicy p) Read
-grants_call S s e (sets p v) = allows S s e (OfPolicy p) (set_operation (change_kind S (slice_index s.rights p) v))
+grants_call S s e (Deploys p) = has_subject (slice_get S.policies p) e.subject
+grants_call S s e (Reads c) = allows S s e (OfCell c) Read
+grants_call S s e (Writes c v) = allows S s e (OfCell c) Write
+grants_call S s e (Shows p) = allows S s e (OfPolicy p) Read
+grants_call S s e (Sets p v) = allows S s e (OfPolicy p) (set_operation (change_kind S (slice_index s.rights p) v))
 
 abbrev pub reply : Store → Session → Call → ℕ
-reply s e (deploys p) = 0
-reply s e (reads c) = recall e.changes (OfCell c) (slice_index s.cells c)
-reply s e (writes c v) = 0
-reply s e (shows p) = recall e.changes (OfPolicy p) (slice_index s.rights p)
-reply s e (sets p v) = 0
+reply s e (Deploys p) = 0
+reply s e (Reads c) = recall e.changes (OfCell c) (slice_index s.cells c)
+reply s e (Writes c v) = 0
+reply s e (Shows p) = recall e.changes (OfPolicy p) (slice_index s.rights p)
+reply s e (Sets p v) = 0
 
 abbrev pub note_change : Session → Object → ℕ → Session
 note_change e o v = record { subject = e.subject; deployed = e.deployed; changes = record { object = o; value = v } ∷ e.changes }
 
 abbrev pub note_call : Session → Call → Session
-note_call e (deploys p) = record { subject = e.subject; deployed = p ∷ e.deployed; changes = e.changes }
-note_call e (reads c) = e
-note_call e (writes c v) = note_change e (OfCell c) v
-note_call e (shows p) = e
-note_call e (sets p v) = note_change e (OfPolicy p) v
+note_call e (Deploys p) = record { subject = e.subject; deployed = p ∷ e.deployed; changes = e.changes }
+note_call e (Reads c) = e
+note_call e (Writes c v) = note_change e (OfCell c) v
+note_call e (Shows p) = e
+note_call e (Sets p v) = note_change e (OfPolicy p) v
 
 -- One call: its answer, or none where it is refused; what is refused changes nothing.
 abbrev pub execute_if : Bool → Store → Session → Call → Option ℕ × Session
@@ -90,11 +90,11 @@ executed S s u (k ∷ l) = (execute S s (executed S s u l) k.call).1
 
 -- The call is granted; a read and a show with that answer.
 abbrev pub Agrees : Call → ℕ → Option ℕ → Type 0
-Agrees (deploys p) a o = (b : ℕ) × (o ≡ Some b)
-Agrees (reads c) a o = o ≡ Some a
-Agrees (writes c v) a o = (b : ℕ) × (o ≡ Some b)
-Agrees (shows p) a o = o ≡ Some a
-Agrees (sets p v) a o = (b : ℕ) × (o ≡ Some b)
+Agrees (Deploys p) a o = (b : ℕ) × (o ≡ Some b)
+Agrees (Reads c) a o = o ≡ Some a
+Agrees (Writes c v) a o = (b : ℕ) × (o ≡ Some b)
+Agrees (Shows p) a o = o ≡ Some a
+Agrees (Sets p v) a o = (b : ℕ) × (o ≡ Some b)
 
 -- Each of the calls of a transaction, in its turn, is granted, and reads and shows answer the same.
 unfoldable pub Replays : Setup → Store → Option ℕ → List Entry → Type 0

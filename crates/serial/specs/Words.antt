@@ -3,6 +3,8 @@ use Rattle.std.specs.Prelude.{◌≡◌, ℕ, Bool, true, false, ◌||◌, ◌�
 use Rattle.protocol.specs.declared.policy.Object.{Object}
 use Rattle.protocol.specs.declared.policy.Object.TheVariants.{OfCell, OfPolicy}
 pub use Rattle.protocol.specs.declared.policy.Change.{Change}
+pub use Rattle.protocol.specs.declared.call.Call.{Call}
+pub use Rattle.protocol.specs.declared.call.Call.TheVariants.{Deploys, Reads, Writes, Shows, Sets}
 use Rattle.protocol.specs.declared.policy.Policy.{Policy}
 use Rattle.rights.specs.Orders.{join_of, permits_of, change_of}
 use Rattle.rights.specs.declared.change.ChangeKind.{ChangeKind}
@@ -47,14 +49,6 @@ same_object (OfPolicy a) (OfPolicy b) = a == b
 pub record Store : Type 0 where
   pub cells : List ℕ
   pub rights : List ℕ
-
--- The calls of an open transaction, by the number of the cell or the policy
-pub data Call : Type 0 where
-  deploys : ℕ → Call
-  reads : ℕ → Call
-  writes : ℕ → ℕ → Call
-  shows : ℕ → Call
-  sets : ℕ → ℕ → Call
 
 abbrev pub Member : {A : Type 0} → A → List A → Type 0
 Member a [] = ⊥

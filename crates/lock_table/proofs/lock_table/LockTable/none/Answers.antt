@@ -1,7 +1,7 @@
 use Rattle.std.proofs.Common.{sym, refl, ap, ◌∙◌, subst}
 use Rattle.locking.specs.CellLocks.{cell_holds, CellCompatible}
 use Rattle.locking.specs.PolicyLocks.{policy_holds, PolicyCompatible}
-use Rattle.lock_table.proofs.Tables.{cell_fits, policy_fits, alike_fit, alike_held}
+use Rattle.lock_table.proofs.Tables.{alike_fit, alike_held}
 use Rattle.lock_table.proofs.lock_table.LockTable.none.Goals as goal
 
 pub invariant_of-result : goal.invariant_of-result
@@ -9,7 +9,7 @@ invariant_of-result c =
     record {
       celled = refl;
       policed = refl;
-      compatible = ∣ alike_fit c.to_row-cell.result c.to_row-policy.result (subst CellCompatible (sym c.to_row-cell.ensures) (cell_fits c.none.result)) (subst PolicyCompatible (sym c.to_row-policy.ensures) (policy_fits c.none-2.result)) ∣₁;
+      compatible = alike_fit c.to_row-cell.result c.to_row-policy.result (subst CellCompatible (sym c.to_row-cell.ensures) c.none.result.compatible) (subst PolicyCompatible (sym c.to_row-policy.ensures) c.none-2.result.compatible);
     }
 
 pub returns : goal.returns
