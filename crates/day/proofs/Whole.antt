@@ -1,5 +1,5 @@
 -- From an engine's work to the day that it did.
-use Rattle.std.proofs.Common.{◌≡◌, ℕ, List, length, sym, ap, ◌∙◌, subst, arith}
+use Rattle.std.proofs.Common.{◌≡◌, ℕ, List, length, sym, ap, subst, arith}
 use Rattle.std.proofs.lemmas.List.{length-take}
 use Rattle.protocol.specs.declared.answer.Answer.{Answer}
 use Rattle.protocol.specs.declared.request.Request.{Request}
@@ -9,7 +9,7 @@ use Rattle.serial.specs.Model.{State}
 use Rattle.serial.specs.History.{Admitted}
 use Rattle.serial.specs.OneDay.{morning, Worked, DayDone}
 use Rattle.serial.proofs.OneDay.{worked_day}
-use Rattle.engine.specs.Stores.{lists_of, first_cells, Lent}
+use Rattle.engine.specs.Stores.{lists_of, first_cells}
 use Rattle.engine.proofs.Stepping.{all_cells}
 
 -- The engine began the day with this set-up in this state.
@@ -28,6 +28,3 @@ pub day_back : {C R : Type 0} (c : store.Ghosts C) (r : store.Ghosts R) (S : Set
     → DayDone S before (lists_of c r cells rights) rs bs → DayDone S before (lists_of c r cells' rights') rs bs
 day_back c r S before rs bs cells cells' rights rights' e f d =
     subst (λ x. DayDone S before (lists_of c r x rights') rs bs) (sym e) (subst (λ y. DayDone S before (lists_of c r cells y) rs bs) (sym f) d)
-
-pub lent_back : {C R : Type 0} (c : store.Ghosts C) (r : store.Ghosts R) (a b b' : C) (x y y' : R) → b' ≡ b → y' ≡ y → Lent c r a x b y → Lent c r a x b' y'
-lent_back c r a b b' x y y' e f l = record { by_cells = ap c.lent e ∙ l.by_cells; by_rights = ap r.lent f ∙ l.by_rights }

@@ -1,38 +1,24 @@
 -- Changes that go into lists, one after another.
-use Rattle.std.proofs.Common.{◌≡◌, ℕ, zero, suc, ◌+◌, ◌<◌, ◌≤◌, List, [], ◌∷◌, length, get_or, take, drop, set, Some, sym, refl, ap, ◌∙◌, arith}
-use Rattle.std.specs.List.{slice_get}
-use Rattle.std.proofs.lemmas.List.{length-set, length-take, length-drop, set_past, drop_all, drop_more}
-use Rattle.std.proofs.iter.runs.Lists.{nth_read}
+use Rattle.std.proofs.Common.{◌≡◌, ℕ, ◌+◌, ◌<◌, ◌≤◌, List, [], ◌∷◌, length, get_or, drop, refl, ap, ◌∙◌, arith}
+use Rattle.std.proofs.lemmas.List.{length-set, length-take, length-drop, drop_all, drop_more}
+use Rattle.std.proofs.Math.Seq.{take-set-lt}
 use Rattle.protocol.specs.declared.policy.Object.{Object}
 use Rattle.protocol.specs.declared.policy.Object.TheVariants.{OfCell, OfPolicy}
-use Rattle.stores.specs.declared.store.Store as store
 use Rattle.serial.specs.Words.{Store, Change}
 use Rattle.serial.specs.Changes.{store_at, apply}
-use Rattle.engine.specs.Stores.{first_cells, Lent}
+use Rattle.engine.specs.Stores.{first_cells}
 
-pub apply_more : (ks : List Change) (n : ℕ) (k : Change) (s t z : Store) → n < length ks → Some k ≡ slice_get ks n → apply (drop n ks) s ≡ z → t ≡ store_at s k.object k.value → apply (drop (n + 1) ks) t ≡ z
+pub apply_more : (ks : List Change) (n : ℕ) (d : Change) (s t z : Store) → n < length ks → apply (drop n ks) s ≡ z
+    → t ≡ store_at s (get_or ks n d).object (get_or ks n d).value → apply (drop (n + 1) ks) t ≡ z
 unfolding apply
-apply_more ks n k s t z lt here so stored =
-    let read = nth_read ks n k lt in
-    let same : get_or ks n k ≡ k = cc in
-    ap (apply (drop (n + 1) ks)) stored ∙ ap (λ j. apply (drop (n + 1) ks) (store_at s j.object j.value)) (sym same) ∙ sym (ap (λ l. apply l s) (drop_more ks n k lt)) ∙ so
+apply_more ks n d s t z lt so stored = rw stored (rw (drop_more ks n d lt) at so)
 
 pub apply_all : (ks : List Change) (n : ℕ) (s z : Store) → length ks ≤ n → apply (drop n ks) s ≡ z → s ≡ z
 unfolding apply
-apply_all ks n s z all so = sym (ap (λ l. apply l s) (drop_all n ks all)) ∙ so
+apply_all ks n s z all so = rw (drop_all n ks all) at so
 
-pub lent_more : {C R : Type 0} (c : store.Ghosts C) (r : store.Ghosts R) {a b d : C} {x y z : R} → Lent c r a x b y → Lent c r b y d z → Lent c r a x d z
-lent_more c r p q = record { by_cells = q.by_cells ∙ p.by_cells; by_rights = q.by_rights ∙ p.by_rights }
-
--- A write to one of the first n cells, or to none of them
-pub take_set : (n : ℕ) (xs : List ℕ) (i v : ℕ) → take n (set xs i v) ≡ set (take n xs) i v
-take_set zero xs i v = refl
-take_set (suc n) [] i v = refl
-take_set (suc n) (x ∷ xs) zero v = refl
-take_set (suc n) (x ∷ xs) (suc i) v = ap (λ l. x ∷ l) (take_set n xs i v)
-
-pub set_outside : (n : ℕ) (xs : List ℕ) (i v : ℕ) → n ≤ i → take n xs ≡ set (take n xs) i v
-set_outside n xs i v h = sym (set_past (take n xs) i v (omega (arith, length-take n xs)))
+-- A write to one of the first n cells
+pub ruleset writes = (take-set-lt)
 
 -- Changes to the first n cells leave as many numbers.
 stored_size : (s : Store) (o : Object) (v : ℕ) → (length (store_at s o v).cells ≡ length s.cells) × (length (store_at s o v).rights ≡ length s.rights)

@@ -1,9 +1,7 @@
-pub mod Slots
 pub mod Verdicts
 pub mod Counts
 pub mod Strikes
 pub mod Views
-pub mod Judging
 pub mod Applying
 pub mod Calls
 pub mod Stepping

@@ -1,20 +1,27 @@
 -- A lock that is granted or has to wait, on the machine's slots.
-use Rattle.std.proofs.Common.{◌≡◌, ℕ, zero, suc, ◌+◌, ◌≤◌, Bool, true, false, cond, not, ◌&&◌, ◌||◌, eqb, ◌≢◌, ◌⊎◌, List, [], ◌∷◌, map, length, get_or, Some, None, Option, sym, refl, ap, ◌∙◌, subst, inl, inr, arith}
+use Rattle.std.proofs.Common.{◌≡◌, ℕ, zero, suc, ◌+◌, ◌<◌, Bool, true, false, cond, not, ◌&&◌, ◌||◌, eqb, ◌≢◌, ◌⊎◌, List, [], ◌∷◌, map, length, get_or, Some, None, Option, sym, refl, ap, ap₂, ◌∙◌, inl, inr, arith}
 use mathlib.Core.Path.{fun_ext}
+use Rattle.std.proofs.lemmas.Simd.{map-map}
+use Rattle.std.proofs.lemmas.List.{ext_get_or, get_or-map, length-map}
 use Rattle.std.proofs.lemmas.Bool.{cases_eq, eq-eqb, ne_eqb, both_ways}
 use Rattle.std.proofs.lemmas.Bool.Decides.{nat_tests}
 use Rattle.serial.specs.Locks.{Lock, lock_number, same_lock}
-use Rattle.serial.specs.Model.{Slot as ModelSlot, Transaction as ModelTransaction, open_slot, aborted_slot, verdict, is_conflict, is_signal, strike, blocks, blocker, lower, signalled, replace, replace_slot}
-use Rattle.serial.proofs.Basics.{never}
+use Rattle.serial.specs.Model.{Slot as ModelSlot, Transaction as ModelTransaction, free, open_slot, aborted_slot, strike, blocks, blocker, lower, signalled, replace, replace_slot}
 use Rattle.locking.specs.Slots.{count_below}
 use Rattle.lock_table.specs.Held.{conflicts, Granted}
+use Rattle.lock_table.specs.Held.{held}
 use Rattle.slot_table.specs.declared.slot.Transaction.{Transaction}
+use Rattle.slot_table.specs.declared.slot.OpenSlot.{OpenSlot}
+use Rattle.slot_table.specs.Tables.{used}
+use Rattle.slot_table.proofs.Invariants.{distinct_at, few_used}
+use Rattle.engine.specs.declared.tables.Tables.{Tables}
+use Rattle.engine.specs.Tables.{OpenIn, asker_in, slots_in}
 use Rattle.slot_table.specs.declared.slot.Slot.{Slot}
 use Rattle.slot_table.specs.declared.slot.Slot.TheVariants.{Free, Open, Aborted}
 use Rattle.slot_table.specs.Slots.{transaction_of, slot_of, slots_from, slot_named, is_open, Idle, abort_if}
 use Rattle.slot_table.specs.Lowest.{number_if_open, lowest_in}
 use Rattle.engine.specs.Asking.{with_lock}
-use Rattle.engine.proofs.Slots.{slots_mapped}
+use Rattle.slot_table.proofs.SlotLists.{length_slots_from, slots_from_at}
 use Rattle.engine.proofs.Counts.{signals_in, counted}
 use Rattle.engine.proofs.Verdicts.{other_conflicts, other_signals, own_conflicts, own_signals, self_conflicts, self_signals, idle_conflicts, idle_signals}
 
@@ -28,22 +35,13 @@ at_home a b h s e f = grind (arith, nat_tests)
 elsewhere : (a b h s : Bool) → b ≡ false → s ≡ false → ((a && b) || (h && not s)) ≡ h
 elsewhere a b h s e f = grind (arith, nat_tests)
 
-map_map : {A B C : Type 0} (f : B → C) (g : A → B) (l : List A) → map f (map g l) ≡ map (λ a. f (g a)) l
-map_map f g [] = refl
-map_map f g (a ∷ l) = ap (λ r. f (g a) ∷ r) (map_map f g l)
-
 -- The lowest of the slots that a test takes, where the test says who blocks
 blocker_by : (h : ℕ → Lock → Bool) (x : ModelTransaction) (asked : Lock) (b : ℕ → Bool) (n : ℕ) (ss : List Slot)
-    → ((k : ℕ) → blocks x asked (slot_of (h (n + k)) (get_or ss k Free)) ≡ cond (b (n + k)) (number_if_open (get_or ss k Free)) None)
+    → ((k m : ℕ) → m ≡ n + k → blocks x asked (slot_of (h m) (get_or ss k Free)) ≡ cond (b m) (number_if_open (get_or ss k Free)) None)
     → blocker x asked (slots_from h n ss) ≡ lowest_in b n ss
 unfolding blocker lowest_in slots_from
 blocker_by h x asked b n [] each = refl
-blocker_by h x asked b n (s ∷ ss) each =
-    ap (λ o. lower o (blocker x asked (slots_from h (suc n) ss)))
-    (ap (λ m. blocks x asked (slot_of (h m) s)) (omega arith) ∙ each 0 ∙ ap (λ m. cond (b m) (number_if_open s) None) (omega arith))
-    ∙ ap (lower (cond (b n) (number_if_open s) None))
-    (blocker_by h x asked b (suc n) ss
-    (λ k. ap (λ m. blocks x asked (slot_of (h m) (get_or ss k Free))) (omega arith) ∙ each (suc k) ∙ ap (λ m. cond (b m) (number_if_open (get_or ss k Free)) None) (omega arith)))
+blocker_by h x asked b n (s ∷ ss) each = ap₂ lower (each 0 n (omega arith)) (blocker_by h x asked b (suc n) ss (λ k m e. each (suc k) m (omega arith)))
 
 lowest_nobody : (n : ℕ) (ss : List Slot) → lowest_in (λ k. false) n ss ≡ None
 unfolding lowest_in
@@ -52,68 +50,79 @@ lowest_nobody n (s ∷ ss) = lowest_nobody (suc n) ss
 
 lower_none : (a b : Option ℕ) → lower a b ≡ None → (a ≡ None) × (b ≡ None)
 lower_none None b e = (refl, e)
-lower_none (Some a) None e = never (cc)
-lower_none (Some a) (Some b) e = never (cc)
+lower_none (Some a) None e = cc
+lower_none (Some a) (Some b) e = cc
 
 not_taken : (b : Bool) (s : Slot) → cond b (number_if_open s) None ≡ None → is_open s ≡ true → b ≡ false
 not_taken false s e o = refl
-not_taken true (Open y) e o = never (cc)
-not_taken true Free e o = absurd (both_ways _ refl o)
-not_taken true (Aborted i b p) e o = absurd (both_ways _ refl o)
+not_taken true (Open y) e o = cc
+not_taken true Free e o = cc
+not_taken true (Aborted i b p) e o = cc
 
-lowest_none : (b : ℕ → Bool) (n : ℕ) (ss : List Slot) → lowest_in b n ss ≡ None → (k : ℕ) → is_open (get_or ss k Free) ≡ true → b (n + k) ≡ false
+lowest_none : (b : ℕ → Bool) (n : ℕ) (ss : List Slot) → lowest_in b n ss ≡ None → (k m : ℕ) → m ≡ n + k → is_open (get_or ss k Free) ≡ true → b m ≡ false
 unfolding lowest_in
-lowest_none b n [] e k o = absurd (both_ways _ refl o)
-lowest_none b n (s ∷ ss) e zero o = ap b (omega arith) ∙ not_taken (b n) s (lower_none _ _ e).0 o
-lowest_none b n (s ∷ ss) e (suc k) o = ap b (omega arith) ∙ lowest_none b (suc n) ss (lower_none _ _ e).1 k o
+lowest_none b n [] e k m q o = cc
+lowest_none b n (s ∷ ss) e zero m q o = let p : m ≡ n = omega arith in rw p (not_taken (b n) s (lower_none _ _ e).0 o)
+lowest_none b n (s ∷ ss) e (suc k) m q o = lowest_none b (suc n) ss (lower_none _ _ e).1 k m (omega arith) o
 
--- The transaction x in slot i asks for a lock; no other slot has its number.
-module _ (h : ℕ → Lock → Bool) (ss : List Slot) (i : ℕ) (x : Transaction) (asked : Lock) (mine : get_or ss i Free ≡ Open x) (apart : (k : ℕ) → slot_named (get_or ss k Free) x.id ≡ true → k ≡ i) where
+-- Every slot is changed as f says
+slots_mapped : (h g : ℕ → Lock → Bool) (ss ts : List Slot) (f : ModelSlot → ModelSlot) → length ts ≡ length ss
+    → ((k : ℕ) → k < length ss → slot_of (g k) (get_or ts k Free) ≡ f (slot_of (h k) (get_or ss k Free))) → slots_from g 0 ts ≡ map f (slots_from h 0 ss)
+slots_mapped h g ss ts f same each =
+    ext_get_or free (slots_from g 0 ts) (map f (slots_from h 0 ss))
+    (length_slots_from g 0 ts ∙ same ∙ sym (length-map (slots_from h 0 ss) f ∙ length_slots_from h 0 ss))
+    (λ k lt.
+    let lt' : k < length ss = omega (arith, length_slots_from g 0 ts) in
+    slots_from_at g ts k ∙ each k lt' ∙ ap f (sym (slots_from_at h ss k)) ∙ sym (get_or-map f (slots_from h 0 ss) k free free (omega (arith, length_slots_from h 0 ss))))
+
+-- An open transaction asks for a lock.
+module _ (t : Tables) (o : OpenSlot) (asked : Lock) (mine : OpenIn t o) where
+  abbrev h : ℕ → Lock → Bool
+  h = held t.locks
+
+  abbrev ss : List Slot
+  ss = used t.slots
+
+  abbrev i : ℕ
+  i = o.slot.at
+
+  abbrev x : Transaction
+  x = o.transaction
+
   abbrev asker : ModelTransaction
-  asker = transaction_of (h i) x
+  asker = asker_in t o
 
   -- another slot, of another number
   differs : (k : ℕ) (s : Slot) → get_or ss k Free ≡ s → k ≢ i → slot_named s x.id ≡ true → ⊥
-  differs k s e ne n = ne (apart k (ap (λ z. slot_named z x.id) e ∙ n))
+  differs k s e ne n = ne (distinct_at t.slots k i x.id (rw e n) (rw mine (eq-eqb x.id x.id refl)))
 
   numbers : (k : ℕ) (y : Transaction) → get_or ss k Free ≡ Open y → k ≢ i → x.id ≢ y.id
   numbers k y e ne n = differs k (Open y) e ne (eq-eqb y.id x.id (sym n))
-
-  mine_open : (y : Transaction) → get_or ss i Free ≡ Open y → y ≡ x
-  mine_open y e = cc
 
   -- Who says no
 
   block_at : (k : ℕ) (s : Slot) → get_or ss k Free ≡ s → (k ≡ i) ⊎ (k ≢ i) → blocks asker asked (slot_of (h k) s) ≡ cond (conflicts h asked i k) (number_if_open s) None
   block_at k Free e w = nobody (conflicts h asked i k)
   block_at k (Aborted a b p) e w = nobody (conflicts h asked i k)
-  block_at k (Open y) e (inl q) =
-      subst (λ j. (z : Transaction) → get_or ss j Free ≡ Open z → blocks asker asked (slot_of (h j) (Open z)) ≡ cond (conflicts h asked i j) (Some z.id) None) (sym q)
-      (λ z e'. ap (λ w. cond (is_conflict (verdict asker asked (transaction_of (h i) w))) (Some w.id) None) (mine_open z e')
-      ∙ ap (λ b. cond b (Some x.id) None) (own_conflicts h asked i asker (λ l. refl))
-      ∙ sym (ap (λ b. cond b (Some z.id) None) (self_conflicts h asked i)))
-      y e
-  block_at k (Open y) e (inr ne) =
-      ap (λ b. cond b (Some y.id) None) (other_conflicts h asked i asker (λ l. refl) k (transaction_of (h k) y) (λ l. refl) ne (numbers k y e ne) refl)
+  block_at k (Open y) e (inl q) = let m : y ≡ x = cc in rw (q, m, own_conflicts h asked i x, self_conflicts h asked i)
+  block_at k (Open y) e (inr ne) = rw (other_conflicts h asked i x k y ne (numbers k y e ne))
 
   -- The lowest of them
-  pub blocker_is : (b : ℕ → Bool) → ((k : ℕ) → b k ≡ conflicts h asked i k) → blocker asker asked (slots_from h 0 ss) ≡ lowest_in b 0 ss
+  pub blocker_is : (b : ℕ → Bool) → ((k : ℕ) → b k ≡ conflicts h asked i k) → blocker asker asked (slots_in t) ≡ lowest_in b 0 ss
   blocker_is b same =
-      blocker_by h asker asked b 0 ss
-      (λ k. ap (λ n. blocks asker asked (slot_of (h n) (get_or ss k Free))) (omega arith) ∙ block_at k (get_or ss k Free) refl (cases_eq k i)
-      ∙ ap (λ c. cond c (number_if_open (get_or ss k Free)) None) (sym (same k)) ∙ ap (λ n. cond (b n) (number_if_open (get_or ss k Free)) None) (omega arith))
+      blocker_by h asker asked b 0 ss (λ k m e. let p : m ≡ k = omega arith in rw (p, same k) (block_at k (get_or ss k Free) refl (cases_eq k i)))
 
   -- Nobody blocks where nobody says no.
-  pub no_blocker : ((k : ℕ) → conflicts h asked i k ≡ false) → blocker asker asked (slots_from h 0 ss) ≡ None
+  pub no_blocker : ((k : ℕ) → conflicts h asked i k ≡ false) → blocker asker asked (slots_in t) ≡ None
   no_blocker quiet = blocker_is (λ k. false) (λ k. sym (quiet k)) ∙ lowest_nobody 0 ss
 
   -- Somebody does where somebody says no.
-  pub not_nobody : (b : ℕ → Bool) → ((k : ℕ) → b k ≡ conflicts h asked i k) → Idle ss h → lowest_in b 0 ss ≡ None → (k : ℕ) → conflicts h asked i k ≡ false
-  not_nobody b same idle e k = go (is_open (get_or ss k Free)) refl
+  pub not_nobody : (b : ℕ → Bool) → ((k : ℕ) → b k ≡ conflicts h asked i k) → lowest_in b 0 ss ≡ None → (k : ℕ) → conflicts h asked i k ≡ false
+  not_nobody b same e k = go (is_open (get_or ss k Free)) refl
     where
       go : (o : Bool) → is_open (get_or ss k Free) ≡ o → conflicts h asked i k ≡ false
-      go true here = sym (same k) ∙ ap b (omega arith) ∙ lowest_none b 0 ss e k here
-      go false shut = idle_conflicts h asked i k (idle k shut)
+      go true here = sym (same k) ∙ lowest_none b 0 ss e k k (omega arith) here
+      go false shut = idle_conflicts h asked i k (t.idle k shut)
 
   -- Who is struck
 
@@ -132,54 +141,35 @@ module _ (h : ℕ → Lock → Bool) (ss : List Slot) (i : ℕ) (x : Transaction
     abbrev after : ModelSlot → ModelSlot
     after s = replace_slot (with_lock asker asked) (strike asker asked s)
 
-    own_slot : (z : Transaction) → z ≡ x → slot_of (g i) (abort_if (struck i) x.id (lock_number asked) (Open z)) ≡ after (slot_of (h i) (Open z))
-    own_slot z e =
-        ap (λ w. slot_of (g i) (abort_if (struck i) x.id (lock_number asked) (Open w))) e
-        ∙ ap (λ b. slot_of (g i) (cond b (Aborted x.id x.id (lock_number asked)) (Open x))) not_struck
-        ∙ ap open_slot mine_after
-        ∙ sym (ap (λ b. cond b (open_slot (with_lock asker asked)) (open_slot asker)) (eq-eqb x.id x.id refl))
-        ∙ sym (ap (λ b. replace_slot (with_lock asker asked) (cond b (aborted_slot x.id x.id (lock_number asked)) (open_slot asker))) (own_signals h asked i asker (λ l. refl)))
-        ∙ ap (λ w. after (slot_of (h i) (Open w))) (sym e)
-
     other_slot : (k : ℕ) (y : Transaction) → get_or ss k Free ≡ Open y → k ≢ i → (b : Bool) → struck k ≡ b
         → slot_of (g k) (abort_if b x.id (lock_number asked) (Open y)) ≡ replace_slot (with_lock asker asked) (cond b (aborted_slot y.id x.id (lock_number asked)) (open_slot (transaction_of (h k) y)))
-    other_slot k y e ne true hit = sym (ap (λ c. cond c (open_slot (with_lock asker asked)) (aborted_slot y.id x.id (lock_number asked))) (ne_eqb y.id x.id (λ q. numbers k y e ne (sym q))))
-    other_slot k y e ne false miss =
-        ap open_slot (its_after k y ne miss) ∙ sym (ap (λ c. cond c (open_slot (with_lock asker asked)) (open_slot (transaction_of (h k) y))) (ne_eqb y.id x.id (λ q. numbers k y e ne (sym q))))
+    other_slot k y e ne true hit = rw (ne_eqb y.id x.id (λ q. numbers k y e ne (sym q)))
+    other_slot k y e ne false miss = rw (ne_eqb y.id x.id (λ q. numbers k y e ne (sym q))) (ap open_slot (its_after k y ne miss))
 
     slot_after : (k : ℕ) (s : Slot) → get_or ss k Free ≡ s → (k ≡ i) ⊎ (k ≢ i) → slot_of (g k) (abort_if (struck k) x.id (lock_number asked) s) ≡ after (slot_of (h k) s)
     slot_after k Free e w = refl
-    slot_after k (Aborted a b p) e (inl q) = never (let f : Aborted a b p ≡ Open x = sym e ∙ ap (λ n. get_or ss n Free) q ∙ mine in cc)
-    slot_after k (Aborted a b p) e (inr ne) =
-        sym (ap (λ c. cond c (open_slot (with_lock asker asked)) (aborted_slot a b p)) (ne_eqb a x.id (λ q. differs k (Aborted a b p) e ne (eq-eqb a x.id q))))
-    slot_after k (Open y) e (inl q) =
-        subst (λ j. (z : Transaction) → get_or ss j Free ≡ Open z → slot_of (g j) (abort_if (struck j) x.id (lock_number asked) (Open z)) ≡ after (slot_of (h j) (Open z))) (sym q)
-        (λ z e'. own_slot z (mine_open z e')) y e
-    slot_after k (Open y) e (inr ne) =
-        other_slot k y e ne (struck k) refl
-        ∙ ap (λ b. replace_slot (with_lock asker asked) (cond b (aborted_slot y.id x.id (lock_number asked)) (open_slot (transaction_of (h k) y))))
-        (granted.signals_struck k ∙ sym (other_signals h asked i asker (λ l. refl) k (transaction_of (h k) y) (λ l. refl) ne (numbers k y e ne) refl))
+    slot_after k (Aborted a b p) e (inl q) = cc
+    slot_after k (Aborted a b p) e (inr ne) = rw (ne_eqb a x.id (λ q. differs k (Aborted a b p) e ne (eq-eqb a x.id q)))
+    slot_after k (Open y) e (inl q) = let m : y ≡ x = cc in rw (q, m, not_struck, own_signals h asked i x, eq-eqb x.id x.id refl) (ap open_slot mine_after)
+    slot_after k (Open y) e (inr ne) = rw (other_signals h asked i x k y ne (numbers k y e ne), ← granted.signals_struck k) (other_slot k y e ne (struck k) refl)
 
     -- The slots when the lock is granted
     pub slots_granted : (ts : List Slot) → length ts ≡ length ss → ((k : ℕ) → get_or ts k Free ≡ abort_if (struck k) x.id (lock_number asked) (get_or ss k Free))
-        → slots_from g 0 ts ≡ replace (with_lock asker asked) (map (strike asker asked) (slots_from h 0 ss))
+        → slots_from g 0 ts ≡ replace (with_lock asker asked) (map (strike asker asked) (slots_in t))
     unfolding replace
     slots_granted ts same each =
         slots_mapped h g ss ts after same (λ k lt. ap (slot_of (g k)) (each k) ∙ slot_after k (get_or ss k Free) refl (cases_eq k i))
-        ∙ sym (map_map (replace_slot (with_lock asker asked)) (strike asker asked) (slots_from h 0 ss))
+        ∙ sym (map-map (replace_slot (with_lock asker asked)) (strike asker asked) (slots_from h 0 ss))
 
-    struck_at : (k : ℕ) (s : Slot) → get_or ss k Free ≡ s → Idle ss h → (k ≡ i) ⊎ (k ≢ i) → signals_in asker asked (slot_of (h k) s) ≡ struck k
-    struck_at k Free e idle w = sym (granted.signals_struck k ∙ idle_signals h asked i k (idle k (ap is_open e)))
-    struck_at k (Aborted a b p) e idle w = sym (granted.signals_struck k ∙ idle_signals h asked i k (idle k (ap is_open e)))
-    struck_at k (Open y) e idle (inl q) =
-        subst (λ j. (z : Transaction) → get_or ss j Free ≡ Open z → signals_in asker asked (slot_of (h j) (Open z)) ≡ struck j) (sym q)
-        (λ z e'. ap (λ w. is_signal (verdict asker asked (transaction_of (h i) w))) (mine_open z e') ∙ own_signals h asked i asker (λ l. refl) ∙ sym not_struck) y e
-    struck_at k (Open y) e idle (inr ne) =
-        other_signals h asked i asker (λ l. refl) k (transaction_of (h k) y) (λ l. refl) ne (numbers k y e ne) refl ∙ sym (granted.signals_struck k)
+    struck_at : (k : ℕ) (s : Slot) → get_or ss k Free ≡ s → (k ≡ i) ⊎ (k ≢ i) → signals_in asker asked (slot_of (h k) s) ≡ struck k
+    struck_at k Free e w = sym (granted.signals_struck k ∙ idle_signals h asked i k (t.idle k (ap is_open e)))
+    struck_at k (Aborted a b p) e w = sym (granted.signals_struck k ∙ idle_signals h asked i k (t.idle k (ap is_open e)))
+    struck_at k (Open y) e (inl q) = let m : y ≡ x = cc in rw (q, m, not_struck) (own_signals h asked i x)
+    struck_at k (Open y) e (inr ne) = other_signals h asked i x k y ne (numbers k y e ne) ∙ sym (granted.signals_struck k)
 
-    pub struck_count : Idle ss h → length ss ≤ 16 → length (signalled asker asked (slots_from h 0 ss)) ≡ count_below struck 16
-    struck_count idle few =
-        counted h asker asked 0 ss struck 16 (λ k. ap (λ n. signals_in asker asked (slot_of (h n) (get_or ss k Free))) (omega arith) ∙ struck_at k (get_or ss k Free) refl idle (cases_eq k i)) few
+    pub struck_count : length (signalled asker asked (slots_in t)) ≡ count_below struck 16
+    struck_count =
+        counted h asker asked 0 ss struck 16 (λ k j e. let p : j ≡ k = omega arith in rw p (struck_at k (get_or ss k Free) refl (cases_eq k i))) (few_used t.slots)
 
     abort_open : (b : Bool) (n p : ℕ) (s : Slot) → is_open (abort_if b n p s) ≡ false → (is_open s ≡ false) ⊎ (b ≡ true)
     abort_open b n p Free e = inl refl
@@ -188,11 +178,11 @@ module _ (h : ℕ → Lock → Bool) (ss : List Slot) (i : ℕ) (x : Transaction
     abort_open false n p (Open y) e = absurd (both_ways _ e refl)
 
     -- No lock is left in a slot that is not open.
-    pub idle_granted : Idle ss h → (ts : List Slot) (n p : ℕ) → ((k : ℕ) → get_or ts k Free ≡ abort_if (struck k) n p (get_or ss k Free)) → Idle ts g
-    idle_granted idle ts n p each k shut l = granted.locks_after k l ∙ go (abort_open (struck k) n p (get_or ss k Free) (sym (ap is_open (each k)) ∙ shut))
+    pub idle_granted : (ts : List Slot) (n p : ℕ) → ((k : ℕ) → get_or ts k Free ≡ abort_if (struck k) n p (get_or ss k Free)) → Idle ts g
+    idle_granted ts n p each k shut l = granted.locks_after k l ∙ go (abort_open (struck k) n p (get_or ss k Free) (sym (ap is_open (each k)) ∙ shut))
       where
         go : (is_open (get_or ss k Free) ≡ false) ⊎ (struck k ≡ true) → ((same_lock l asked && eqb k i) || (h k l && not (struck k))) ≡ false
-        go (inl was) = let a = idle k was l in let b : eqb k i ≡ false = ne_eqb k i (λ q. both_ways _ was (ap (λ n. is_open (get_or ss n Free)) q ∙ ap is_open mine)) in grind (arith, nat_tests)
+        go (inl was) = let a = t.idle k was l in let b : eqb k i ≡ false = ne_eqb k i (λ q. both_ways _ was (ap (λ n. is_open (get_or ss n Free)) q ∙ ap is_open mine)) in grind (arith, nat_tests)
         go (inr hit) = let b : eqb k i ≡ false = ne_eqb k i (λ q. both_ways _ not_struck (sym (ap struck q) ∙ hit)) in grind (arith, nat_tests)
 
     -- The asker's own slot stays.

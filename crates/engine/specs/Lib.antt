@@ -1,10 +1,9 @@
-pub mod Words
 pub mod Asking
 pub mod Tables
 pub mod Stores
 pub mod Actions
-pub mod Standings
 pub mod Engines
 pub mod Permits
 pub mod Judging
 pub mod Beginning
+pub mod Denials

@@ -1,20 +1,23 @@
 -- What the tables mean in the words of the machine, and what a lock comes to there.
-use Rattle.std.specs.Prelude.{◌≡◌, ℕ, true, false, List, [], map, length, Some, None, slice_index_or}
+use Rattle.std.specs.Prelude.{◌≡◌, ℕ, ◌+◌, true, false, List, [], map, length, Some, None, Option, Ok, Err, Result, slice_index_or}
 use Rattle.protocol.specs.declared.policy.Object.{Object}
 use Rattle.protocol.specs.declared.policy.Object.TheVariants.{OfCell, OfPolicy}
 use Rattle.workspace.specs.Workspaces.{changes_of}
-use Rattle.serial.specs.Words.{Store, Call, deploys, reads, writes, shows, sets}
+use Rattle.serial.specs.Words.{Store, Call, Deploys, Reads, Writes, Shows, Sets}
 use Rattle.serial.specs.Changes.{room}
 use Rattle.serial.specs.Locks.{Lock}
-use Rattle.serial.specs.Model.{State, Slot as ModelSlot, Transaction as ModelTransaction, blocker, signalled, strike, replace}
+use Rattle.serial.specs.Model.{State, Slot as ModelSlot, Transaction as ModelTransaction, blocker, signalled, strike, replace, end}
 use Rattle.lock_table.specs.Held.{held, has_row}
 use Rattle.slot_table.specs.declared.slot.Transaction.{Transaction}
 use Rattle.slot_table.specs.declared.slot.Slot.TheVariants.{Free, Open}
 use Rattle.slot_table.specs.Slots.{transaction_of, slot_named}
 use Rattle.slot_table.specs.Edits.{with_change}
 use Rattle.slot_table.specs.Tables.{used, slots_of, state_of}
-use Rattle.engine.specs.declared.acquired.Acquired.{Acquired}
-use Rattle.engine.specs.declared.acquired.Acquired.TheVariants.{Absent, Waits, Holds}
+use Rattle.slot_table.specs.declared.slot.OpenSlot.{OpenSlot}
+use Rattle.slot_table.specs.Counts.{one_commit_more}
+use Rattle.engine.specs.declared.denial.Denial.{Denial}
+use Rattle.protocol.specs.declared.refusal.Refusal.TheVariants.{Absent}
+use Rattle.engine.specs.declared.denial.Denial.TheVariants.{Refused, Waits}
 use Rattle.engine.specs.declared.tables.Tables.{Tables}
 use Rattle.engine.specs.Asking.{with_lock}
 
@@ -39,31 +42,42 @@ NamedAt t i n = slot_named (slice_index_or (used t.slots) i Free) n ≡ true
 abbrev pub transaction_in : Tables → ℕ → Transaction → ModelTransaction
 transaction_in t i x = transaction_of (held t.locks i) x
 
+-- The same of an open transaction with its slot
+abbrev pub OpenIn : Tables → OpenSlot → Type 0
+OpenIn t o = OpenAt t o.slot.at o.transaction
+
+abbrev pub asker_in : Tables → OpenSlot → ModelTransaction
+asker_in t o = transaction_in t o.slot.at o.transaction
+
 -- The transaction x in slot i has got the lock, and so many others were struck.
 pub record Got (t : Tables) (i : ℕ) (x : Transaction) (lock : Lock) (n : ℕ) (t' : Tables) : Type 0 where
   pub nobody_blocks : blocker (transaction_in t i x) lock (slots_in t) ≡ None
   pub counts_struck : n ≡ length (signalled (transaction_in t i x) lock (slots_in t))
   pub slots_after : slots_in t' ≡ replace (with_lock (transaction_in t i x) lock) (map (strike (transaction_in t i x) lock) (slots_in t))
-  pub opened_kept : t'.slots.opened ≡ t.slots.opened
-  pub commits_kept : t'.slots.commits ≡ t.slots.commits
+  pub counts_kept : t'.slots.counts ≡ t.slots.counts
   pub still_open : OpenAt t' i x
   pub asker_after : transaction_in t' i x ≡ with_lock (transaction_in t i x) lock
 
-abbrev pub Acquires : Tables → ℕ → Transaction → Lock → Acquired → Tables → Type 0
-Acquires t i x lock Absent t' = has_row lock ≡ false
-Acquires t i x lock (Waits u) t' = (blocker (transaction_in t i x) lock (slots_in t) ≡ Some u) × (t'.slots ≡ t.slots) × (t'.locks ≡ t.locks)
-Acquires t i x lock (Holds n) t' = Got t i x lock n t'
+abbrev pub Acquires : Tables → OpenSlot → Lock → Result ℕ Denial → Tables → Type 0
+Acquires t o lock (Ok n) t' = Got t o.slot.at o.transaction lock n t'
+Acquires t o lock (Err (Waits u)) t' = (blocker (asker_in t o) lock (slots_in t) ≡ Some u) × (t'.slots ≡ t.slots) × (t'.locks ≡ t.locks)
+Acquires t o lock (Err (Refused f)) t' = (f ≡ Absent) × (has_row lock ≡ false)
+
+-- The transaction of that number has ended, and is counted among those that committed; so many have then.
+pub record Commits (t : Tables) (n : ℕ) (answer : Option ℕ) (t' : Tables) : Type 0 where
+  pub answers_place : answer ≡ Some (t.slots.counts.commits + 1)
+  pub slots_after : slots_in t' ≡ end n (slots_in t)
+  pub counts_after : t'.slots.counts ≡ one_commit_more t.slots.counts
 
 -- A change of the transaction x in slot i is noted.
 pub record Noted (t : Tables) (i : ℕ) (x : Transaction) (o : Object) (v : ℕ) (t' : Tables) : Type 0 where
   pub slots_after : slots_in t' ≡ replace (with_change (held t.locks i) o v x) (slots_in t)
-  pub opened_kept : t'.slots.opened ≡ t.slots.opened
-  pub commits_kept : t'.slots.commits ≡ t.slots.commits
+  pub counts_kept : t'.slots.counts ≡ t.slots.counts
 
 -- The call's change, if it has one, is noted.
 abbrev pub NotedCall : Tables → ℕ → Transaction → Call → Tables → Type 0
-NotedCall t i x (deploys p) t' = t' ≡ t
-NotedCall t i x (reads c) t' = t' ≡ t
-NotedCall t i x (writes c v) t' = room (changes_of x.workspace) (OfCell c) ≡ true → Noted t i x (OfCell c) v t'
-NotedCall t i x (shows p) t' = t' ≡ t
-NotedCall t i x (sets p v) t' = room (changes_of x.workspace) (OfPolicy p) ≡ true → Noted t i x (OfPolicy p) v t'
+NotedCall t i x (Deploys p) t' = t' ≡ t
+NotedCall t i x (Reads c) t' = t' ≡ t
+NotedCall t i x (Writes c v) t' = room (changes_of x.workspace) (OfCell c) ≡ true → Noted t i x (OfCell c) v t'
+NotedCall t i x (Shows p) t' = t' ≡ t
+NotedCall t i x (Sets p v) t' = room (changes_of x.workspace) (OfPolicy p) ≡ true → Noted t i x (OfPolicy p) v t'

@@ -9,6 +9,7 @@ use stores::Store;
 use workspace::Workspace;
 
 // Of the cells, only the first ones are the engine's.
+#[tactic(auto, using(crate::proofs::Applying::writes))]
 fn store_change<C: Store, R: Store>(cells: &mut C, rights: &mut R, size: usize, change: Change)
     ensures lists { first_cells size (lists_of C.Store R.Store cells.new rights.new) ≡ store_at (first_cells size (lists_of C.Store R.Store cells.old rights.old)) change.object change.value }
     ensures other_cells { drop size (C.Store.list cells.new) ≡ drop size (C.Store.list cells.old) }
@@ -31,9 +32,7 @@ pub fn store_all<C: Store, R: Store>(cells: &mut C, rights: &mut R, size: usize,
     ensures other_cells { drop size (C.Store.list cells.new) ≡ drop size (C.Store.list cells.old) }
     ensures lent { Lent C.Store R.Store cells.old rights.old cells.new rights.new }
 {
-    for at in 0..work.len() {
-        if let Some(change) = work.get(at) {
-            store_change(cells, rights, size, change);
-        }
+    for change in work.as_slice() {
+        store_change(cells, rights, size, *change);
     }
 }

@@ -14,8 +14,10 @@ pub struct Engine<'a, 'o, 'p, C, R, O> {
     cells: &'a mut C,
     rights: &'a mut R,
     order: &'o O,
+    // The right of policy i is number i of the rights store: a rule of set-up, so the two lists stand apart.
     policies: &'p [Policy],
-    // So many cells of the store are the engine's: all, or none where set-up refused.
+    // So many cells of the store are the engine's: all, or none where set-up refused, by the rule of an engine made all the same.
+    // A number of its own beside the store, of whose list no type can state that it is at most 256.
     size: usize,
     tables: Tables,
     ghost few_cells: { size ≤ 256 },

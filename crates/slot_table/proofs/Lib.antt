@@ -6,4 +6,3 @@ pub mod Ending
 pub mod Changing
 pub mod Aborting
 pub mod Lowest
-pub mod Idling

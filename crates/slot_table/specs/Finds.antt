@@ -10,5 +10,5 @@ use Rattle.slot_table.specs.Slots.{transaction_of, slots_from}
 
 abbrev pub Finds : (ℕ → Lock → Bool) → List Slot → ℕ → Found → Type 0
 Finds h ss t Nobody = find t (slots_from h 0 ss) ≡ free
-Finds h ss t (FoundOpen slot x) = (find t (slots_from h 0 ss) ≡ open_slot (transaction_of (h slot.at) x)) × (slice_index_or ss slot.at Free ≡ Open x) × (x.id ≡ t)
+Finds h ss t (FoundOpen found) = (find t (slots_from h 0 ss) ≡ open_slot (transaction_of (h found.slot.at) found.transaction)) × (slice_index_or ss found.slot.at Free ≡ Open found.transaction) × (found.transaction.id ≡ t)
 Finds h ss t (FoundAborted slot b p) = (find t (slots_from h 0 ss) ≡ aborted_slot t b p) × (slice_index_or ss slot.at Free ≡ Aborted t b p)

@@ -3,3 +3,4 @@ pub mod Tables
 pub mod Finds
 pub mod Edits
 pub mod Lowest
+pub mod Counts

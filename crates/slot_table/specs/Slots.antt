@@ -1,5 +1,5 @@
 -- What a slot means, and a list of slots, given who holds which lock: h k l says whether slot k holds the lock l.
-use Rattle.std.specs.Prelude.{◌≡◌, ℕ, suc, ◌≤◌, Bool, true, false, cond, not, List, [], ◌∷◌, ◌==◌, slice_index_or}
+use Rattle.std.specs.Prelude.{◌≡◌, ℕ, suc, ◌≤◌, Bool, true, false, cond, List, [], ◌∷◌, ◌==◌, slice_index_or}
 use Rattle.serial.specs.Locks.{Lock}
 use Rattle.serial.specs.Model.{free, open_slot, aborted_slot, Transaction as ModelTransaction, Slot as ModelSlot}
 use Rattle.workspace.specs.Workspaces.{changes_of}
@@ -25,10 +25,10 @@ is_open Free = false
 is_open (Open x) = true
 is_open (Aborted i b p) = false
 
-abbrev pub is_taken : Slot → Bool
-is_taken Free = false
-is_taken (Open x) = true
-is_taken (Aborted i b p) = true
+abbrev pub is_free : Slot → Bool
+is_free Free = true
+is_free (Open x) = false
+is_free (Aborted i b p) = false
 
 -- No lock is held in a slot that is not open.
 abbrev pub Idle : List Slot → (ℕ → Lock → Bool) → Type 0
@@ -38,9 +38,6 @@ abbrev pub slot_named : Slot → ℕ → Bool
 slot_named Free t = false
 slot_named (Open x) t = x.id == t
 slot_named (Aborted i b p) t = i == t
-
-abbrev pub not_named : ℕ → Slot → Bool
-not_named t s = not (slot_named s t)
 
 -- 0 for a free slot
 abbrev pub slot_number : Slot → ℕ

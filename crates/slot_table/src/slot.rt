@@ -1,8 +1,9 @@
 // A slot for a transaction.
-ghost use Rattle.std.specs.Prelude.{◌≡◌};
-ghost use Rattle.slot_table.specs.Slots.{is_taken, slot_named};
+ghost use Rattle.std.specs.Prelude.{◌≡◌, true};
+ghost use Rattle.slot_table.specs.Slots.{is_free, slot_named, abort_if};
 ghost use Rattle.slot_table.specs.Lowest.{number_if_open};
 
+use locking::SlotIndex;
 use protocol::TransactionId;
 use workspace::Workspace;
 
@@ -13,11 +14,19 @@ pub struct Transaction {
     pub workspace: Workspace,
 }
 
+// An open transaction, and the slot that it stands in.
+#[derive(Clone, Copy)]
+pub struct OpenSlot {
+    pub slot: SlotIndex,
+    pub transaction: Transaction,
+}
+
 #[derive(Clone, Copy)]
 pub enum Slot {
     Free,
     Open(Transaction),
-    // The transaction was struck: by that transaction, which restricts that policy.
+    // The transaction was struck: by that transaction, which restricts that policy. Two numbers side by side, as in the answer that
+    // names them.
     Aborted {
         id: TransactionId,
         by: TransactionId,
@@ -26,13 +35,10 @@ pub enum Slot {
 }
 
 impl Slot {
-    pub(crate) fn is_taken(&self) -> bool
-        ensures { result ≡ is_taken self.now }
+    pub(crate) fn is_free(&self) -> bool
+        ensures { result ≡ is_free self.now }
     {
-        match *self {
-            Slot::Free => false,
-            Slot::Open(_) | Slot::Aborted { .. } => true,
-        }
+        matches!(*self, Slot::Free)
     }
 
     pub(crate) fn is_named(&self, transaction: TransactionId) -> bool
@@ -42,6 +48,16 @@ impl Slot {
             Slot::Free => false,
             Slot::Open(open) => open.id == transaction,
             Slot::Aborted { id, .. } => id == transaction,
+        }
+    }
+
+    // An open transaction that is struck loses its workspace, and its slot keeps who struck it.
+    pub(crate) fn abort(&mut self, by: TransactionId, policy: u16)
+        ensures { self.new ≡ abort_if true by policy self.old }
+    {
+        if let Slot::Open(transaction) = *self {
+            let id = transaction.id;
+            *self = Slot::Aborted { id, by, policy };
         }
     }
 

@@ -2,6 +2,7 @@
 ghost use Rattle.std.specs.Prelude.{◌≡◌, ◌+◌, ◌≤◌, length, take, count_by};
 ghost use Rattle.slot_table.specs.Slots.{is_open, Numbered, Apart};
 
+use crate::counts::Counts;
 use crate::slot::Slot;
 
 mod edits;
@@ -10,15 +11,14 @@ mod reads;
 #[derive(Drop)]
 pub struct SlotTable {
     slots: [Slot; 16],
-    // How many of the slots are in use: 16, or 0 in a table that is closed.
+    // How many of the slots are in use: 16, or 0 in a table that is closed. The memory is fixed, so that a table keeps its 16 slots either way.
     limit: usize,
-    opened: u16,
-    commits: u16,
+    counts: Counts,
     ghost sized: { length slots ≡ 16 },
     ghost within: { limit ≤ 16 },
-    ghost numbered: { opened ≤ 50000 },
+    ghost numbered: { counts.opened ≤ 50000 },
     // Each open transaction can still commit.
-    ghost counted: { commits + count_by is_open (take limit slots) ≤ opened },
-    ghost known: { Numbered opened (take limit slots) },
+    ghost counted: { counts.commits + count_by is_open (take limit slots) ≤ counts.opened },
+    ghost known: { Numbered counts.opened (take limit slots) },
     ghost apart: { Apart (take limit slots) },
 }

@@ -3,11 +3,8 @@ use Rattle.std.proofs.Common.{◌≡◌, ℕ, ◌≤◌, Bool, true, false, ltb,
 use Rattle.protocol.specs.declared.answer.Answer.{Answer}
 use Rattle.protocol.specs.declared.answer.Answer.TheVariants.{Granted, Refused, Wait, Aborted}
 use Rattle.protocol.specs.declared.request.Request.TheVariants.{Open}
-use Rattle.stores.specs.declared.store.Store as store
-use Rattle.rights.specs.declared.order.RightsOrder as order
-use Rattle.serial.specs.Model.{State, any_free, open_in, perform}
-use Rattle.engine.specs.declared.engine.Engine.{Engine}
-use Rattle.engine.specs.Engines.{Steps, state_of}
+use Rattle.serial.specs.Words.{Setup}
+use Rattle.serial.specs.Model.{State, any_free, open_in, perform, step}
 
 abbrev pub AnswersOpen : Answer → Type 0
 AnswersOpen (Granted n) = n ≤ 50000
@@ -21,9 +18,6 @@ answers_in σ u false room e = tt
 answers_in σ u true false e = tt
 answers_in σ u true true e = omega (arith, ltb-true σ.opened 50000 e)
 
-pub answers_open : {C R O : Type 0} (c : store.Ghosts C) (r : store.Ghosts R) (o : order.Ghosts O) (before after : Engine C R O) (u : ℕ) (a : Answer)
-    → Steps c r o before (Open u) a after → AnswersOpen a
+pub answers_open : (S : Setup) (σ τ : State) (u : ℕ) (a : Answer) → (a, τ) ≡ step S σ (Open u) → AnswersOpen a
 unfolding perform
-answers_open c r o before after u a went =
-    let σ = state_of c r before in
-    subst AnswersOpen (sym (ap (λ x. x.0) went.answered)) (answers_in σ u (ltb σ.opened 50000) (any_free σ.slots) refl)
+answers_open S σ τ u a went = subst AnswersOpen (sym (ap (λ x. x.0) went)) (answers_in σ u (ltb σ.opened 50000) (any_free σ.slots) refl)

@@ -25,6 +25,7 @@ impl Token {
     {
         match engine.open(subject) {
             Answer::Granted(number) => Ok(Token {
+                // It fits: numbers end at 50,000.
                 id: number as TransactionId,
             }),
             Answer::Refused(refusal) => Err(refusal),

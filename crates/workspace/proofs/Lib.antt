@@ -1,2 +1,2 @@
-pub mod Places
-pub mod Workspaces
+pub mod Objects
+pub mod Searches

@@ -5,6 +5,7 @@ use protocol::Change;
 
 mod calls;
 
+// An array and a count, and no vector of the kit: those are not Copy, and the table of slots hands its transactions out.
 #[derive(Clone, Copy)]
 pub struct Workspace {
     changes: [Change; 16],

@@ -2,14 +2,14 @@ use Rattle.std.proofs.Common.{◌≡◌, take, sym, ap, ◌∙◌, ap₂, rules}
 use Rattle.serial.specs.Words.{Laws}
 use Rattle.serial.specs.OneDay.{morning}
 use Rattle.serial.proofs.Laws.{setup_laws}
-use Rattle.engine.specs.Stores.{lists_of, Lent}
+use Rattle.engine.specs.Stores.{lists_of}
 use Rattle.engine.specs.Engines.{state_of, setup_of, store_of}
 use Rattle.engine.specs.Beginning.{setup_with, begin_state, begin_policies}
-use Rattle.day.proofs.Whole.{began, all_there, day_back, lent_back}
+use Rattle.day.proofs.Whole.{began, all_there, day_back}
 use Rattle.day.proofs.run_day.Goals as goal
 
-pub returns : goal.returns
-returns g c =
+pub returns-clause-day : goal.returns-clause-day
+returns-clause-day g c =
     let gc = g.C.Store in
     let gr = g.R.Store in
     let o = c.args.order.now in
@@ -29,18 +29,10 @@ returns g c =
     let ends : store_of gc gr f ≡ lists_of gc gr f.cells.now f.rights.now =
     all_there e.size f.size (lists_of gc gr e.cells.now e.rights.now) (lists_of gc gr f.cells.now f.rights.now)
     (ap (λ σ. σ.store) state ∙ sym lists) told.keeps_stores.same_size told.keeps_stores.as_many_cells in
-    let kept : Lent gc gr c.args.cells.now c.args.rights.now f.cells.now f.rights.now =
     record {
-      by_cells = told.keeps_stores.lent.by_cells ∙ ap gc.lent made.cells;
-      by_rights = told.keeps_stores.lent.by_rights ∙ ap gr.lent made.rights;
-    } in
-    record {
-      day = record {
-        set_up_accepts = sym said.answer;
-        as_many_as_fit = told.count;
-        day_done = day_back gc gr S before (take c.work.result c.args.requests.now) (take c.work.result c.work.new.answers) f.cells.now _ f.rights.now _ (search rules) (search rules)
-            (began S (setup_of g.O.RightsOrder e) laws before _ (state_of gc gr e) (state_of gc gr f) _ _ setup state said.admits told.worked ends);
-        other_answers_stay = told.other_answers;
-      };
-      lent = lent_back gc gr _ f.cells.now _ _ f.rights.now _ (search rules) (search rules) kept;
+      set_up_accepts = sym said.answer;
+      as_many_as_fit = told.count;
+      day_done = day_back gc gr S before (take c.work.result c.args.requests.now) (take c.work.result c.work.new.answers) f.cells.now _ f.rights.now _ (search rules) (search rules)
+          (began S (setup_of g.O.RightsOrder e) laws before _ (state_of gc gr e) (state_of gc gr f) _ _ setup state said.admits told.worked ends);
+      other_answers_stay = told.other_answers;
     }

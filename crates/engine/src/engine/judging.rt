@@ -1,18 +1,16 @@
 // What a call of an open transaction is refused for, which lock it asks for, and what it is answered.
 ghost use Rattle.std.specs.Prelude.{◌≡◌, ℕ, None};
-ghost use Rattle.serial.specs.Words.{deploys, sets};
+ghost use Rattle.serial.specs.Words.{Deploys, Sets};
 ghost use Rattle.serial.specs.Model.{unless, judge, lock_for, call_answer};
-ghost use Rattle.lock_table.specs.Words.{lock_of};
-ghost use Rattle.engine.specs.Words.{call_of};
-ghost use Rattle.engine.specs.Tables.{transaction_in};
+ghost use Rattle.engine.specs.Tables.{asker_in};
 ghost use Rattle.engine.specs.Engines.{store_of, setup_of};
 ghost use Rattle.engine.specs.Judging.{refusal_in, judge_view, judge_change, judge_write};
 
 use super::Engine;
-use locking::{CellMode, Lock, PolicyMode, SlotIndex};
+use locking::{CellMode, Lock, PolicyMode};
 use protocol::{Call, Object, Refusal};
 use rights::{ChangeKind, Operation, RightsOrder};
-use slot_table::Transaction;
+use slot_table::OpenSlot;
 use stores::Store;
 
 fn require(fact: bool, refusal: Refusal) -> Result<(), Refusal>
@@ -22,36 +20,27 @@ fn require(fact: bool, refusal: Refusal) -> Result<(), Refusal>
 }
 
 impl<C: Store, R: Store, O: RightsOrder> Engine<'_, '_, '_, C, R, O> {
-    fn judge_deploy(
-        &self,
-        slot: SlotIndex,
-        transaction: &Transaction,
-        policy: u16,
-    ) -> Result<(), Refusal>
-        ensures { refusal_in result ≡ judge (setup_of O.RightsOrder self.now) (store_of C.Store R.Store self.now) (transaction_in self.now.tables slot.at transaction.now) (deploys policy) }
+    #[tactic(auto, unfolding(serial::specs::Model::judge))]
+    fn judge_deploy(&self, asker: &OpenSlot, policy: u16) -> Result<(), Refusal>
+        ensures { refusal_in result ≡ judge (setup_of O.RightsOrder self.now) (store_of C.Store R.Store self.now) (asker_in self.now.tables asker.now) (Deploys policy) }
     {
         let at = policy as usize;
         if at >= self.policies.len() {
             return Err(Refusal::Absent);
         }
         require(
-            self.policies[at].subject == transaction.subject,
+            self.policies[at].subject == asker.transaction.subject,
             Refusal::OtherSubject,
         )
     }
 
     // A read or a show
-    fn judge_view(
-        &self,
-        slot: SlotIndex,
-        transaction: &Transaction,
-        object: Object,
-    ) -> Result<(), Refusal>
-        ensures { refusal_in result ≡ judge_view (setup_of O.RightsOrder self.now) (store_of C.Store R.Store self.now) (transaction_in self.now.tables slot.at transaction.now) object }
+    fn judge_view(&self, asker: &OpenSlot, object: Object) -> Result<(), Refusal>
+        ensures { refusal_in result ≡ judge_view (setup_of O.RightsOrder self.now) (store_of C.Store R.Store self.now) (asker_in self.now.tables asker.now) object }
     {
         require(self.has(object), Refusal::Absent)?;
         require(
-            self.permitted(slot, object, Operation::Read),
+            self.permitted(asker.slot, object, Operation::Read),
             Refusal::NotPermitted,
         )
     }
@@ -59,44 +48,33 @@ impl<C: Store, R: Store, O: RightsOrder> Engine<'_, '_, '_, C, R, O> {
     // Whether the operation on the object is permitted, and there is room for one change more
     fn judge_change(
         &self,
-        slot: SlotIndex,
-        transaction: &Transaction,
+        asker: &OpenSlot,
         object: Object,
         operation: Operation,
     ) -> Result<(), Refusal>
-        ensures { refusal_in result ≡ judge_change (setup_of O.RightsOrder self.now) (store_of C.Store R.Store self.now) (transaction_in self.now.tables slot.at transaction.now) object operation }
+        ensures { refusal_in result ≡ judge_change (setup_of O.RightsOrder self.now) (store_of C.Store R.Store self.now) (asker_in self.now.tables asker.now) object operation }
     {
         require(
-            self.permitted(slot, object, operation),
+            self.permitted(asker.slot, object, operation),
             Refusal::NotPermitted,
         )?;
         require(
-            transaction.workspace.has_room(object),
+            asker.transaction.workspace.has_room(object),
             Refusal::TooManyChanges,
         )
     }
 
-    fn judge_write(
-        &self,
-        slot: SlotIndex,
-        transaction: &Transaction,
-        object: Object,
-    ) -> Result<(), Refusal>
-        ensures { refusal_in result ≡ judge_write (setup_of O.RightsOrder self.now) (store_of C.Store R.Store self.now) (transaction_in self.now.tables slot.at transaction.now) object }
+    fn judge_write(&self, asker: &OpenSlot, object: Object) -> Result<(), Refusal>
+        ensures { refusal_in result ≡ judge_write (setup_of O.RightsOrder self.now) (store_of C.Store R.Store self.now) (asker_in self.now.tables asker.now) object }
     {
         require(self.has(object), Refusal::Absent)?;
-        self.judge_change(slot, transaction, object, Operation::Write)
+        self.judge_change(asker, object, Operation::Write)
     }
 
     // By the right in force, whatever the transaction has set before
-    fn judge_set(
-        &self,
-        slot: SlotIndex,
-        transaction: &Transaction,
-        policy: u16,
-        right: u32,
-    ) -> Result<(), Refusal>
-        ensures { refusal_in result ≡ judge (setup_of O.RightsOrder self.now) (store_of C.Store R.Store self.now) (transaction_in self.now.tables slot.at transaction.now) (sets policy right) }
+    #[tactic(auto, unfolding(serial::specs::Model::judge))]
+    fn judge_set(&self, asker: &OpenSlot, policy: u16, right: u32) -> Result<(), Refusal>
+        ensures { refusal_in result ≡ judge (setup_of O.RightsOrder self.now) (store_of C.Store R.Store self.now) (asker_in self.now.tables asker.now) (Sets policy right) }
     {
         let object = Object::OfPolicy(policy);
         require(self.has(object), Refusal::Absent)?;
@@ -105,28 +83,25 @@ impl<C: Store, R: Store, O: RightsOrder> Engine<'_, '_, '_, C, R, O> {
             ChangeKind::Relaxation => Operation::Write,
             ChangeKind::Restriction => Operation::Restrict,
         };
-        self.judge_change(slot, transaction, object, operation)
+        self.judge_change(asker, object, operation)
     }
 
-    pub(super) fn judge(
-        &self,
-        slot: SlotIndex,
-        transaction: &Transaction,
-        call: Call,
-    ) -> Result<(), Refusal>
-        ensures { refusal_in result ≡ judge (setup_of O.RightsOrder self.now) (store_of C.Store R.Store self.now) (transaction_in self.now.tables slot.at transaction.now) (call_of call) }
+    #[tactic(auto, unfolding(serial::specs::Model::judge))]
+    pub(super) fn judge(&self, asker: &OpenSlot, call: Call) -> Result<(), Refusal>
+        ensures { refusal_in result ≡ judge (setup_of O.RightsOrder self.now) (store_of C.Store R.Store self.now) (asker_in self.now.tables asker.now) call }
     {
         match call {
-            Call::Deploys { policy } => self.judge_deploy(slot, transaction, policy),
-            Call::Reads { cell } => self.judge_view(slot, transaction, Object::OfCell(cell)),
-            Call::Writes { cell, .. } => self.judge_write(slot, transaction, Object::OfCell(cell)),
-            Call::Shows { policy } => self.judge_view(slot, transaction, Object::OfPolicy(policy)),
-            Call::Sets { policy, right } => self.judge_set(slot, transaction, policy, right),
+            Call::Deploys { policy } => self.judge_deploy(asker, policy),
+            Call::Reads { cell } => self.judge_view(asker, Object::OfCell(cell)),
+            Call::Writes { cell, .. } => self.judge_write(asker, Object::OfCell(cell)),
+            Call::Shows { policy } => self.judge_view(asker, Object::OfPolicy(policy)),
+            Call::Sets { policy, right } => self.judge_set(asker, policy, right),
         }
     }
 
+    #[tactic(auto, unfolding(serial::specs::Model::lock_for))]
     pub(super) fn lock_for(&self, call: Call) -> Lock
-        ensures { lock_of result ≡ lock_for (setup_of O.RightsOrder self.now) (store_of C.Store R.Store self.now) (call_of call) }
+        ensures { result ≡ lock_for (setup_of O.RightsOrder self.now) (store_of C.Store R.Store self.now) call }
     {
         match call {
             Call::Deploys { policy } => Lock::OnPolicy(PolicyMode::Deploy, policy),
@@ -141,18 +116,13 @@ impl<C: Store, R: Store, O: RightsOrder> Engine<'_, '_, '_, C, R, O> {
     }
 
     // A read or a show with what the transaction sees, a set with how many it struck.
-    pub(super) fn answer_to(
-        &self,
-        slot: SlotIndex,
-        transaction: &Transaction,
-        call: Call,
-        struck: u32,
-    ) -> u32
-        ensures { result ≡ call_answer (store_of C.Store R.Store self.now) (transaction_in self.now.tables slot.at transaction.now) (call_of call) struck }
+    #[tactic(auto, unfolding(serial::specs::Model::call_answer))]
+    pub(super) fn answer_to(&self, asker: &OpenSlot, call: Call, struck: u32) -> u32
+        ensures { result ≡ call_answer (store_of C.Store R.Store self.now) (asker_in self.now.tables asker.now) call struck }
     {
         match call {
-            Call::Reads { cell } => self.seen(transaction, Object::OfCell(cell)),
-            Call::Shows { policy } => self.seen(transaction, Object::OfPolicy(policy)),
+            Call::Reads { cell } => self.seen(&asker.transaction, Object::OfCell(cell)),
+            Call::Shows { policy } => self.seen(&asker.transaction, Object::OfPolicy(policy)),
             Call::Sets { .. } => struck,
             Call::Deploys { .. } | Call::Writes { .. } => 0,
         }

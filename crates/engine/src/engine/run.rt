@@ -15,6 +15,7 @@ use stores::Store;
 
 impl<'a, 'o, 'p, C: Store, R: Store, O: RightsOrder> Engine<'a, 'o, 'p, C, R, O> {
     // Where set-up refuses, an engine is made all the same: it has no cell, no policy and no free slot.
+    // The four go one by one, and in no struct, so that the promise names each store itself.
     pub fn new(
         cells: &'a mut C,
         rights: &'a mut R,
@@ -79,7 +80,7 @@ impl<'a, 'o, 'p, C: Store, R: Store, O: RightsOrder> Engine<'a, 'o, 'p, C, R, O>
     }
 
     // Makes the requests in turn, as many as there are places for answers, and says how many that was. Any run that led to the
-    // engine as it was goes on to the engine as it is then.
+    // engine as it was goes on to the engine as it is then. Places for answers are lent, since the engine has no heap to put them in.
     pub fn work(&mut self, requests: &[Request], answers: &mut [Answer]) -> usize
         ensures count { result ≡ min (length requests.now) (length answers.old) }
         ensures worked { Worked (setup_of O.RightsOrder self.old) (state_of C.Store R.Store self.old) (take result requests.now) (take result answers.new) (state_of C.Store R.Store self.new) }
@@ -88,8 +89,9 @@ impl<'a, 'o, 'p, C: Store, R: Store, O: RightsOrder> Engine<'a, 'o, 'p, C, R, O>
         ensures keeps_stores { Keeps C.Store R.Store self.old self.new }
     {
         let count = requests.len().min(answers.len());
-        for at in 0..count {
-            answers[at] = self.call(requests[at]);
+        // By place: of answers written through `iter_mut` and `zip` a proof knows nothing in the end.
+        for (at, request) in requests[..count].iter().enumerate() {
+            answers[at] = self.call(*request);
         }
         count
     }

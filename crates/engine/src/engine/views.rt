@@ -13,20 +13,16 @@ ghost use Rattle.engine.specs.Permits.{permits_at};
 
 use super::Engine;
 use locking::SlotIndex;
-use protocol::Object;
+use protocol::{Object, Policy};
 use rights::{ChangeKind, Operation, RightsOrder, change_of};
 use slot_table::Transaction;
 use stores::Store;
-use workspace::same_object;
 
-// The number at a position; 0 where there is none.
+// The number at a position; 0 where there is none, as in the lists of the machine.
 fn number_at<S: Store>(store: &S, at: usize) -> u32
     ensures { result ≡ slice_index (S.Store.list store.now) at }
 {
-    match store.read(at) {
-        Ok(number) => number,
-        Err(_) => 0,
-    }
+    store.read(at).unwrap_or(0)
 }
 
 impl<C: Store, R: Store, O: RightsOrder> Engine<'_, '_, '_, C, R, O> {
@@ -55,6 +51,7 @@ impl<C: Store, R: Store, O: RightsOrder> Engine<'_, '_, '_, C, R, O> {
     }
 
     // The transaction's own change, or else what is stored.
+    #[tactic(auto, unfolding(serial::specs::Changes::seen))]
     pub(super) fn seen(&self, transaction: &Transaction, object: Object) -> u32
         ensures { result ≡ seen (store_of C.Store R.Store self.now) (changes_of transaction.now.workspace) object }
     {
@@ -64,40 +61,36 @@ impl<C: Store, R: Store, O: RightsOrder> Engine<'_, '_, '_, C, R, O> {
         }
     }
 
+    #[tactic(auto, unfolding(serial::specs::Words::change_kind))]
     pub(super) fn kind_of(&self, policy: u16, right: u32) -> ChangeKind
         ensures { result ≡ change_kind (setup_of O.RightsOrder self.now) (slice_index (store_of C.Store R.Store self.now).rights policy) right }
     {
         change_of(self.order, self.stored(Object::OfPolicy(policy)), right)
     }
 
-    // Whether the policy at that place is deployed, has the object, and permits the operation by its right in force.
+    // Whether the policy, which is number `at`, is deployed, has the object, and permits the operation by its right in force.
     fn policy_permits(
         &self,
         slot: SlotIndex,
         object: Object,
         operation: Operation,
-        at: usize,
+        at: u16,
+        policy: &Policy,
     ) -> bool
-        requires { at < length self.now.policies.now }
-        ensures { (d : Policy) → result ≡ permits_at (setup_of O.RightsOrder self.now) (store_of C.Store R.Store self.now) (held self.now.tables.locks slot.at) object operation at (slice_index_or self.now.policies.now at d) }
+        ensures { result ≡ permits_at (setup_of O.RightsOrder self.now) (store_of C.Store R.Store self.now) (held self.now.tables.locks slot.at) object operation at policy.now }
     {
-        if !self.tables.deploys(slot, at as u16) {
-            return false;
-        }
-        if !same_object(self.policies[at].object, object) {
-            return false;
-        }
-        self.order.permits(number_at(self.rights, at), operation)
+        self.tables.deploys(slot, at)
+            && policy.object == object
+            && self
+                .order
+                .permits(number_at(self.rights, at as usize), operation)
     }
 
     pub(super) fn permitted(&self, slot: SlotIndex, object: Object, operation: Operation) -> bool
         ensures { (x : Transaction) → result ≡ permitted (setup_of O.RightsOrder self.now) (store_of C.Store R.Store self.now) (transaction_in self.now.tables slot.at x) object operation }
     {
-        for at in 0..self.policies.len() {
-            if self.policy_permits(slot, object, operation, at) {
-                return true;
-            }
-        }
-        false
+        self.policies.iter().enumerate().any(|(at, policy)| self.policy_permits(
+            slot, object, operation, at as u16, policy,
+        ))
     }
 }

@@ -1,46 +1,50 @@
 // New tables, and what a table answers without a change.
-ghost use Rattle.std.specs.Prelude.{◌≡◌, ℕ, Bool, [], replicate, slice_index_or};
+ghost use Rattle.std.specs.Prelude.{◌≡◌, ℕ, ◌≤◌, Bool, [], replicate};
 ghost use Rattle.locking.specs.Slots.{has};
 ghost use Rattle.serial.specs.Locks.{Lock};
 ghost use Rattle.serial.specs.Model.{free};
-ghost use Rattle.slot_table.specs.Tables.{used, slots_of};
+ghost use Rattle.slot_table.specs.Tables.{used, slot_at, slots_of};
+ghost use Rattle.slot_table.specs.Counts.{no_counts};
 ghost use Rattle.slot_table.specs.Finds.{Finds};
 ghost use Rattle.slot_table.specs.Lowest.{lowest_in};
 ghost use Rattle.slot_table.specs.declared.slot.Slot.TheVariants.{Free};
 
 use super::SlotTable;
+use crate::counts::Counts;
 use crate::found::Found;
 use crate::scan::{lowest_of, place_of};
-use crate::slot::Slot;
+use crate::slot::{OpenSlot, Slot};
 use locking::{SlotIndex, SlotSet};
 use protocol::TransactionId;
 
 impl SlotTable {
-    pub fn new() -> SlotTable
-        ensures slots { (h : ℕ → Lock → Bool) → slots_of h result ≡ replicate 16 free }
-        ensures opened { result.opened ≡ 0 }
-        ensures commits { result.commits ≡ 0 }
+    // The slots in use are free, and nothing was opened yet.
+    fn with_limit(limit: usize) -> SlotTable
+        requires { limit ≤ 16 }
+        ensures slots { used result ≡ replicate limit Free }
+        ensures counts { result.counts ≡ no_counts }
     {
         SlotTable {
             slots: [Slot::Free; 16],
-            limit: 16,
-            opened: 0,
-            commits: 0,
+            limit,
+            counts: Counts::default(),
         }
+    }
+
+    #[tactic(auto, unfolding(crate::specs::Slots::slots_from))]
+    pub fn new() -> SlotTable
+        ensures slots { (h : ℕ → Lock → Bool) → slots_of h result ≡ replicate 16 free }
+        ensures counts { result.counts ≡ no_counts }
+    {
+        SlotTable::with_limit(16)
     }
 
     // No slot is in use, so that nothing can be opened.
     pub fn closed() -> SlotTable
         ensures slots { used result ≡ [] }
-        ensures opened { result.opened ≡ 0 }
-        ensures commits { result.commits ≡ 0 }
+        ensures counts { result.counts ≡ no_counts }
     {
-        SlotTable {
-            slots: [Slot::Free; 16],
-            limit: 0,
-            opened: 0,
-            commits: 0,
-        }
+        SlotTable::with_limit(0)
     }
 
     pub(super) fn as_slice(&self) -> &[Slot]
@@ -51,26 +55,26 @@ impl SlotTable {
 
     // A slot that is not in use is free.
     pub(super) fn get(&self, slot: SlotIndex) -> Slot
-        ensures { result ≡ slice_index_or (used self.now) slot.at Free }
+        ensures { result ≡ slot_at self.now slot.at }
     {
-        let at = slot.get();
-        if at < self.limit {
-            self.slots[at]
-        } else {
-            Slot::Free
-        }
+        self.as_slice()
+            .get(slot.get())
+            .copied()
+            .unwrap_or(Slot::Free)
     }
 
     pub fn find(&self, transaction: TransactionId) -> Found
         ensures { (h : ℕ → Lock → Bool) → Finds h (used self.now) transaction result }
     {
-        let place = place_of(self.as_slice(), transaction);
+        let Some(place) = place_of(self.as_slice(), transaction) else {
+            return Found::Nobody;
+        };
         let Some(slot) = SlotIndex::new(place) else {
             return Found::Nobody;
         };
         match self.get(slot) {
             Slot::Free => Found::Nobody,
-            Slot::Open(transaction) => Found::Open { slot, transaction },
+            Slot::Open(transaction) => Found::Open(OpenSlot { slot, transaction }),
             Slot::Aborted { by, policy, .. } => Found::Aborted { slot, by, policy },
         }
     }

@@ -6,7 +6,7 @@ ghost use Rattle.serial.specs.Changes.{latest, put, room};
 ghost use Rattle.workspace.specs.Workspaces.{changes_of};
 
 use super::Workspace;
-use crate::place::place_of;
+use crate::search::{change_of, place_of};
 use protocol::{Change, Object, Refusal};
 
 impl Workspace {
@@ -23,10 +23,11 @@ impl Workspace {
         }
     }
 
-    fn as_slice(&self) -> &[Change]
+    // In the order in which their objects were first changed.
+    pub fn as_slice(&self) -> &[Change]
         ensures { result.now ≡ changes_of self.now }
     {
-        &self.changes[0..self.count]
+        &self.changes[..self.count]
     }
 
     pub fn len(&self) -> usize
@@ -35,7 +36,6 @@ impl Workspace {
         self.as_slice().len()
     }
 
-    // For a commit, which writes the changes one after another.
     pub fn get(&self, index: usize) -> Option<Change>
         ensures { result ≡ slice_get (changes_of self.now) index }
     {
@@ -45,30 +45,30 @@ impl Workspace {
     pub fn value_of(&self, object: Object) -> Option<u32>
         ensures { result ≡ latest (changes_of self.now) object }
     {
-        let place = place_of(self.as_slice(), object);
-        let change = self.get(place)?;
-        Some(change.value)
+        change_of(self.as_slice(), object).map(|change| change.value)
     }
 
-    // A new change goes behind the others, at the place that is their number.
+    // A change that is there already takes no more room.
+    #[tactic(auto, unfolding(serial::specs::Changes::room))]
     pub fn has_room(&self, object: Object) -> bool
         ensures { result ≡ room (changes_of self.now) object }
     {
-        place_of(self.as_slice(), object) < 16
+        self.value_of(object).is_some() || self.len() < 16
     }
 
-    // Where there is no room, nothing changes.
+    // Where there is no room, nothing changes. The two are taken apart, as the machine's `put` takes them.
     pub fn put(&mut self, object: Object, value: u32) -> Result<(), Refusal>
         ensures answer { outcome result ≡ (if room (changes_of self.old) object then answered tt else refused 7) }
         ensures after { changes_of self.new ≡ (if room (changes_of self.old) object then put object value (changes_of self.old) else changes_of self.old) }
     {
-        let place = place_of(self.as_slice(), object);
-        if place >= 16 {
-            return Err(Refusal::TooManyChanges);
-        }
-        self.changes[place] = Change { object, value };
-        if place == self.count {
-            self.count += 1;
+        let change = Change { object, value };
+        match place_of(self.as_slice(), object) {
+            Some(place) => self.changes[place] = change,
+            None if self.count < 16 => {
+                self.changes[self.count] = change;
+                self.count += 1;
+            }
+            None => return Err(Refusal::TooManyChanges),
         }
         Ok(())
     }

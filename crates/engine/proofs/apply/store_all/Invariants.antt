@@ -4,8 +4,8 @@ use Rattle.serial.specs.Changes.{apply}
 use Rattle.engine.specs.Stores.{lists_of, first_cells, Lent}
 use Rattle.engine.proofs.apply.store_all.Given as goal
 
-abbrev pub invariant-loop-at : goal.invariant-loop-at
-invariant-loop-at g l =
-    (apply (drop l.at (changes_of l.work)) (first_cells l.size (lists_of g.C.Store g.R.Store l.cells l.rights)) ≡ apply (changes_of l.work) (first_cells l.size (lists_of g.C.Store g.R.Store l.initial.cells l.initial.rights)))
+abbrev pub invariant-loop-change : goal.invariant-loop-change
+invariant-loop-change g l =
+    (apply (drop l.change-index (changes_of l.work)) (first_cells l.size (lists_of g.C.Store g.R.Store l.cells l.rights)) ≡ apply (changes_of l.work) (first_cells l.size (lists_of g.C.Store g.R.Store l.initial.cells l.initial.rights)))
     × (drop l.size (g.C.Store.list l.cells) ≡ drop l.size (g.C.Store.list l.initial.cells))
     × Lent g.C.Store g.R.Store l.initial.cells l.initial.rights l.cells l.rights

@@ -13,6 +13,5 @@ returns-in-Open c =
     record {
       model = λ h. ap (slots_from h 0) c.turn.ensures.slots ∙ changed_slots (used e) at x _ c.in-Open.ensures e.apart h c.args.object c.args.value c.put.ensures.after;
       kinds = λ k. ap (λ vs. is_open (get_or vs k Free)) c.turn.ensures.slots ∙ changed_kinds (used e) at x _ c.in-Open.ensures k;
-      opened = c.turn.ensures.opened;
-      commits = c.turn.ensures.commits;
+      counts = c.turn.ensures.counts;
     }
