@@ -10,7 +10,7 @@ mod log_store_tests;
 #[cfg(test)]
 mod record_tests;
 #[cfg(test)]
-mod refusals;
+mod refusal_tests;
 #[cfg(test)]
 mod rights_tests;
 #[cfg(test)]

@@ -1,198 +1,156 @@
 // Locks asked for, held and released, with masks and rows worked out by hand.
-use locking::{
-    CellDecision, CellLocks, CellMode, CellRow, PolicyDecision, PolicyLocks, PolicyMode, PolicyRow,
-    SlotIndex,
-};
+use locking::CellMode::{ReadCell, WriteCell};
+use locking::LockAnswer::{Compatible, Conflict, Signal};
+use locking::PolicyMode::{Deploy, ReadPolicy, Relax, Restrict};
+use locking::{CellRow, LockAnswer, LockRow, Locks, PolicyLocks, PolicyMode, PolicyRow, SlotIndex};
 use std::process::Abort;
-use std::test::Fail;
 
-fn slot(at: usize) -> Result<SlotIndex, Fail> {
-    match SlotIndex::new(at) {
-        Some(slot) => Ok(slot),
-        None => Err(Fail::new("no such slot")),
-    }
-}
-
-// Readers, deployers, relaxer and restricter.
-fn policy(row: [u16; 4]) -> Option<PolicyLocks> {
-    let [readers, deployers, relaxer, restricter] = row;
-    PolicyLocks::from_row(PolicyRow {
+// 16 for the relaxer or the restricter is nobody.
+fn policy(readers: u16, deployers: u16, relaxer: u8, restricter: u8) -> PolicyRow {
+    PolicyRow {
         readers,
         deployers,
-        relaxer: u8::try_from(relaxer).ok()?,
-        restricter: u8::try_from(restricter).ok()?,
-    })
-}
-
-fn numbers(locks: PolicyLocks) -> [u16; 4] {
-    let row = locks.to_row();
-    [
-        row.readers,
-        row.deployers,
-        row.relaxer as u16,
-        row.restricter as u16,
-    ]
-}
-
-// Whether to wait, for whom or who is struck, and the row after.
-fn asked(row: [u16; 4], mode: PolicyMode, at: usize) -> Result<(bool, u16, [u16; 4]), Fail> {
-    let Some(locks) = policy(row) else {
-        return Err(Fail::new("not compatible"));
-    };
-    Ok(match locks.ask(mode, slot(at)?) {
-        PolicyDecision::Wait { blockers } => (true, blockers.to_mask(), row),
-        PolicyDecision::Grant { locks, struck } => (false, struck.to_mask(), numbers(locks)),
-    })
-}
-
-// What the locks of slot 3 come to for slot 5: 0 for yes, 1 for no, 2 for signal.
-fn answer(rt: &impl Abort, row: [u16; 4], mode: PolicyMode) -> Result<u8, Fail> {
-    let (waits, slots, _) = asked(row, mode, 5)?;
-    assert_eq!(rt; slots == 0 || slots == 8, true);
-    Ok(if waits {
-        1
-    } else if slots == 8 {
-        2
-    } else {
-        0
-    })
-}
-
-#[test]
-fn every_held_lock_to_every_asked_one(rt: HostRuntime) -> Result<(), Fail> {
-    let table = [
-        ([8, 0, 16, 16], [0, 1, 1, 0]),
-        ([0, 0, 3, 16], [1, 1, 1, 1]),
-        ([0, 0, 16, 3], [1, 1, 1, 1]),
-        ([0, 8, 16, 16], [0, 0, 2, 0]),
-    ];
-    for (row, [read, relax, restrict, deploy]) in table {
-        assert_eq!(rt; answer(&rt, row, PolicyMode::ReadPolicy)?, read);
-        assert_eq!(rt; answer(&rt, row, PolicyMode::Relax)?, relax);
-        assert_eq!(rt; answer(&rt, row, PolicyMode::Restrict)?, restrict);
-        assert_eq!(rt; answer(&rt, row, PolicyMode::Deploy)?, deploy);
+        relaxer,
+        restricter,
     }
-    Ok(())
+}
+
+// 16 for the writer is nobody.
+fn cell(readers: u16, writer: u8) -> CellRow {
+    CellRow { readers, writer }
+}
+
+fn slot(rt: &impl Abort, at: usize) -> SlotIndex {
+    SlotIndex::new(at).expect(rt, "a slot")
+}
+
+fn locks<R: LockRow>(rt: &impl Abort, row: R) -> Locks<R> {
+    Locks::from_row(row).expect(rt, "a compatible row")
+}
+
+// The row after and the mask of who is struck, or the mask of whom to wait for. A match and no `map`, in whose closure it is not proved that the locks are compatible.
+fn asked<R: LockRow>(rt: &impl Abort, row: R, mode: R::Mode, at: usize) -> Result<(R, u16), u16> {
+    match locks(rt, row).ask(mode, slot(rt, at)) {
+        Ok(granted) => Ok((granted.locks.to_row(), granted.struck.to_mask())),
+        Err(blocked) => Err(blocked.by.to_mask()),
+    }
+}
+
+// What the locks of slot 3 say to slot 5.
+fn said(rt: &impl Abort, row: PolicyRow, mode: PolicyMode) -> LockAnswer {
+    match asked(rt, row, mode, 5).map(|(_, struck)| struck) {
+        Ok(0) => Compatible,
+        Ok(8) => Signal,
+        Err(8) => Conflict,
+        others => panic!(rt; "{others:?}"),
+    }
 }
 
 #[test]
-fn own_locks_never_count(rt: HostRuntime) -> Result<(), Fail> {
-    let row = [32, 32, 5, 16];
-    assert_eq!(rt;
-        asked(row, PolicyMode::Restrict, 5)?,
-        (false, 0, [32, 32, 5, 5])
-    );
-    assert_eq!(rt; asked(row, PolicyMode::Restrict, 6)?, (true, 32, row));
-    Ok(())
+fn every_held_lock_to_every_asked_one(rt: HostRuntime) {
+    let table = [
+        (
+            policy(8, 0, 16, 16),
+            [Compatible, Conflict, Conflict, Compatible],
+        ),
+        (policy(0, 0, 3, 16), [Conflict; 4]),
+        (policy(0, 0, 16, 3), [Conflict; 4]),
+        (
+            policy(0, 8, 16, 16),
+            [Compatible, Compatible, Signal, Compatible],
+        ),
+    ];
+    for (row, expected) in table {
+        let answers = [ReadPolicy, Relax, Restrict, Deploy].map(|mode| said(&rt, row, mode));
+        assert_eq!(rt; answers, expected, "{row:?}");
+    }
+}
+
+#[test]
+fn own_locks_never_count(rt: HostRuntime) {
+    let row = policy(32, 32, 5, 16);
+    assert_eq!(rt; asked(&rt, row, Restrict, 5), Ok((policy(32, 32, 5, 5), 0)));
+    assert_eq!(rt; asked(&rt, row, Restrict, 6), Err(32));
 }
 
 // Slot 5 deployed before slot 3 came to relax.
 #[test]
-fn a_lock_that_is_held_is_granted(rt: HostRuntime) -> Result<(), Fail> {
-    let row = [0, 32, 3, 16];
-    assert_eq!(rt; asked(row, PolicyMode::Deploy, 5)?, (false, 0, row));
-    assert_eq!(rt; asked(row, PolicyMode::Deploy, 6)?, (true, 8, row));
-    Ok(())
+fn a_lock_that_is_held_is_granted(rt: HostRuntime) {
+    let row = policy(0, 32, 3, 16);
+    assert_eq!(rt; asked(&rt, row, Deploy, 5), Ok((row, 0)));
+    assert_eq!(rt; asked(&rt, row, Deploy, 6), Err(8));
 }
 
 #[test]
-fn nobody_is_struck_while_somebody_says_no(rt: HostRuntime) -> Result<(), Fail> {
-    let row = [64, 40, 16, 16];
-    assert_eq!(rt; asked(row, PolicyMode::Restrict, 7)?, (true, 64, row));
+fn nobody_is_struck_while_somebody_says_no(rt: HostRuntime) {
+    let row = policy(64, 40, 16, 16);
+    assert_eq!(rt; asked(&rt, row, Restrict, 7), Err(64));
     assert_eq!(rt;
-        asked(row, PolicyMode::Restrict, 6)?,
-        (false, 40, [64, 0, 16, 6])
+        asked(&rt, row, Restrict, 6),
+        Ok((policy(64, 0, 16, 6), 40))
     );
-    Ok(())
 }
 
 #[test]
-fn the_asker_is_not_struck(rt: HostRuntime) -> Result<(), Fail> {
-    assert_eq!(rt;
-        asked([0, 40, 16, 16], PolicyMode::Restrict, 5)?,
-        (false, 8, [0, 32, 16, 5])
-    );
-    Ok(())
+fn the_asker_is_not_struck(rt: HostRuntime) {
+    let row = policy(0, 40, 16, 16);
+    assert_eq!(rt; asked(&rt, row, Restrict, 5), Ok((policy(0, 32, 16, 5), 8)));
 }
 
-fn released(row: [u16; 4], at: usize) -> Result<[u16; 4], Fail> {
-    match policy(row) {
-        Some(locks) => Ok(numbers(locks.release(slot(at)?))),
-        None => Err(Fail::new("not compatible")),
-    }
+fn released<R: LockRow>(rt: &impl Abort, row: R, at: usize) -> R {
+    locks(rt, row).release(slot(rt, at)).to_row()
 }
 
 #[test]
-fn a_slot_releases_its_own_locks(rt: HostRuntime) -> Result<(), Fail> {
-    let row = [8, 40, 3, 16];
-    assert_eq!(rt; released(row, 3)?, [0, 32, 16, 16]);
-    assert_eq!(rt; released(row, 5)?, [8, 8, 3, 16]);
-    assert_eq!(rt; released(row, 0)?, row);
-    Ok(())
+fn a_slot_releases_its_own_locks(rt: HostRuntime) {
+    let row = policy(8, 40, 3, 16);
+    assert_eq!(rt; released(&rt, row, 3), policy(0, 32, 16, 16));
+    assert_eq!(rt; released(&rt, row, 5), policy(8, 8, 3, 16));
+    assert_eq!(rt; released(&rt, row, 0), row);
 }
 
 #[test]
 fn rows_that_are_compatible(rt: HostRuntime) {
-    assert_eq!(rt; numbers(PolicyLocks::none()), [0, 0, 16, 16]);
-    assert!(rt; policy([65535, 65535, 16, 16]).is_some());
-    assert!(rt; policy([8, 65535, 3, 16]).is_some());
-    assert!(rt; policy([8, 8, 3, 3]).is_some());
+    assert_eq!(rt; PolicyLocks::none().to_row(), policy(0, 0, 16, 16));
+    let rows = [
+        policy(65535, 65535, 16, 16),
+        policy(8, 65535, 3, 16),
+        policy(8, 8, 3, 3),
+    ];
+    for row in rows {
+        assert!(rt; Locks::from_row(row).is_some(), "{row:?}");
+    }
 }
 
 #[test]
 fn rows_that_are_not(rt: HostRuntime) {
     let rows = [
-        [0, 0, 17, 16],
-        [0, 0, 16, 17],
-        [0, 0, 3, 4],
-        [16, 0, 3, 16],
-        [16, 0, 16, 3],
-        [0, 16, 16, 3],
+        policy(0, 0, 17, 16),
+        policy(0, 0, 16, 17),
+        policy(0, 0, 3, 4),
+        policy(16, 0, 3, 16),
+        policy(16, 0, 16, 3),
+        policy(0, 16, 16, 3),
     ];
     for row in rows {
-        assert!(rt; policy(row).is_none());
+        assert!(rt; Locks::from_row(row).is_none(), "{row:?}");
     }
 }
 
-fn cell(readers: u16, writer: u8) -> Option<CellLocks> {
-    CellLocks::from_row(CellRow { readers, writer })
-}
-
-// Whether to wait, for whom, and the readers and the writer after.
-fn asked_of_cell(
-    (readers, writer): (u16, u8),
-    mode: CellMode,
-    at: usize,
-) -> Result<(bool, u16, (u16, u8)), Fail> {
-    let Some(locks) = cell(readers, writer) else {
-        return Err(Fail::new("not compatible"));
-    };
-    Ok(match locks.ask(mode, slot(at)?) {
-        CellDecision::Wait { blockers } => (true, blockers.to_mask(), (readers, writer)),
-        CellDecision::Grant { locks } => {
-            let row = locks.to_row();
-            (false, 0, (row.readers, row.writer))
-        }
-    })
+#[test]
+fn locks_on_a_cell(rt: HostRuntime) {
+    assert_eq!(rt; asked(&rt, cell(8, 16), ReadCell, 5), Ok((cell(40, 16), 0)));
+    assert_eq!(rt; asked(&rt, cell(8, 16), WriteCell, 5), Err(8));
+    assert_eq!(rt; asked(&rt, cell(8, 16), WriteCell, 3), Ok((cell(8, 3), 0)));
+    assert_eq!(rt; asked(&rt, cell(40, 16), WriteCell, 3), Err(32));
+    assert_eq!(rt; asked(&rt, cell(0, 3), ReadCell, 5), Err(8));
+    assert_eq!(rt; asked(&rt, cell(0, 3), ReadCell, 3), Ok((cell(8, 3), 0)));
+    assert!(rt; Locks::from_row(cell(16, 3)).is_none());
+    assert!(rt; Locks::from_row(cell(0, 17)).is_none());
 }
 
 #[test]
-fn locks_on_a_cell(rt: HostRuntime) -> Result<(), Fail> {
-    let (read, write) = (CellMode::ReadCell, CellMode::WriteCell);
-    assert_eq!(rt; asked_of_cell((8, 16), read, 5)?, (false, 0, (40, 16)));
-    assert_eq!(rt; asked_of_cell((8, 16), write, 5)?, (true, 8, (8, 16)));
-    assert_eq!(rt; asked_of_cell((8, 16), write, 3)?, (false, 0, (8, 3)));
-    assert_eq!(rt; asked_of_cell((40, 16), write, 3)?, (true, 32, (40, 16)));
-    assert_eq!(rt; asked_of_cell((0, 3), read, 5)?, (true, 8, (0, 3)));
-    assert_eq!(rt; asked_of_cell((0, 3), read, 3)?, (false, 0, (8, 3)));
-    assert!(rt; cell(16, 3).is_none());
-    assert!(rt; cell(0, 17).is_none());
-    Ok(())
-}
-
-#[test]
-fn slots_end_at_15(rt: HostRuntime) -> Result<(), Fail> {
-    assert!(rt; SlotIndex::new(16).is_none());
-    assert_eq!(rt; slot(15)?.get(), 15);
-    Ok(())
+fn slots_end_at_15(rt: HostRuntime) {
+    assert_eq!(rt; SlotIndex::new(16), None);
+    assert_eq!(rt; slot(&rt, 15).get(), 15);
 }

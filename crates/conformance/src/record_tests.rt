@@ -1,7 +1,8 @@
 // Records byte by byte: what writing makes, and what reading takes and refuses.
-use crate::refusals::refusal;
+use protocol::Refusal::ExceedsBuffer;
 use protocol::Request;
-use records::{read_record, record_len, write_record};
+use records::RecordFault::{Field, UnknownTag, WrongLength};
+use records::{FieldFault, RecordFault, read_record, record_len, write_record};
 use std::process::Abort;
 use std::test::Fail;
 
@@ -9,19 +10,12 @@ use std::test::Fail;
 fn travels(rt: &impl Abort, request: Request, len: usize, bytes: [u8; 12]) -> Result<(), Fail> {
     let mut buffer = [0xEE; 12];
     assert_eq!(rt; record_len(request), len);
-    match write_record(request, &mut buffer) {
-        Ok(written) => assert_eq!(rt; written, len),
-        Err(_) => return Err(Fail::new("the record does not fit")),
-    }
+    assert_eq!(rt; write_record(request, &mut buffer), Ok(len));
     assert_eq!(rt; buffer, bytes);
-    match read_record(&buffer) {
-        Ok((read, rest)) => {
-            assert_eq!(rt; read, request);
-            assert_eq!(rt; rest.len(), 12usize.saturating_sub(len));
-            Ok(())
-        }
-        Err(_) => Err(Fail::new("the record is not read")),
-    }
+    let (read, rest) = read_record(&buffer)?;
+    assert_eq!(rt; read, request);
+    assert_eq!(rt; rest.len(), 12usize.saturating_sub(len));
+    Ok(())
 }
 
 #[test]
@@ -98,41 +92,34 @@ fn records_with_a_long_number(rt: HostRuntime) -> Result<(), Fail> {
 
 #[test]
 fn a_record_that_exceeds_the_buffer_is_not_written(rt: HostRuntime) {
+    let open = Request::Open { subject: 1 };
     let mut short = [9, 9, 9, 9];
-    assert_eq!(rt;
-        refusal(write_record(Request::Open { subject: 1 }, &mut short)),
-        12
-    );
+    assert_eq!(rt; write_record(open, &mut short), Err(ExceedsBuffer));
     assert_eq!(rt; short, [9, 9, 9, 9]);
     let mut enough = [9, 9, 9, 9, 9];
-    assert_eq!(rt;
-        refusal(write_record(Request::Open { subject: 1 }, &mut enough)),
-        0
-    );
+    assert_eq!(rt; write_record(open, &mut enough), Ok(5));
     assert_eq!(rt; enough, [1, 0, 2, 0, 1]);
 }
 
-// The number of the fault of bytes that are no record, or 0.
-fn fault(bytes: &[u8]) -> u8 {
-    match read_record(bytes) {
-        Ok(_) => 0,
-        Err(fault) => fault.number(),
-    }
+const CUT: RecordFault = Field(FieldFault::Cut);
+
+fn fault(bytes: &[u8]) -> Option<RecordFault> {
+    read_record(bytes).err()
 }
 
 #[test]
 fn cut_comes_first_then_the_tag_then_the_length(rt: HostRuntime) {
-    assert_eq!(rt; fault(&[]), 9);
-    assert_eq!(rt; fault(&[1, 0]), 9);
+    assert_eq!(rt; fault(&[]), Some(CUT));
+    assert_eq!(rt; fault(&[1, 0]), Some(CUT));
     // Content of one byte where the length says two; the tag is unknown besides.
-    assert_eq!(rt; fault(&[9, 0, 2, 0]), 9);
+    assert_eq!(rt; fault(&[9, 0, 2, 0]), Some(CUT));
     // Unknown tags; the length is nobody's besides.
-    assert_eq!(rt; fault(&[0, 0, 0]), 10);
-    assert_eq!(rt; fault(&[9, 0, 1, 0]), 10);
-    assert_eq!(rt; fault(&[1, 0, 1, 0]), 11);
-    assert_eq!(rt; fault(&[2, 0, 2, 0, 1]), 11);
-    assert_eq!(rt; fault(&[8, 0, 4, 0, 1, 0, 1]), 11);
-    assert_eq!(rt; fault(&[8, 0, 2, 0, 1]), 0);
+    assert_eq!(rt; fault(&[0, 0, 0]), Some(UnknownTag));
+    assert_eq!(rt; fault(&[9, 0, 1, 0]), Some(UnknownTag));
+    assert_eq!(rt; fault(&[1, 0, 1, 0]), Some(WrongLength));
+    assert_eq!(rt; fault(&[2, 0, 2, 0, 1]), Some(WrongLength));
+    assert_eq!(rt; fault(&[8, 0, 4, 0, 1, 0, 1]), Some(WrongLength));
+    assert_eq!(rt; fault(&[8, 0, 2, 0, 1]), None);
 }
 
 // 0x0102 is 258: the length's high byte counts.
@@ -142,6 +129,6 @@ fn a_length_has_two_bytes(rt: HostRuntime) {
     bytes[0] = 1;
     bytes[1] = 1;
     bytes[2] = 2;
-    assert_eq!(rt; fault(&bytes), 11);
-    assert_eq!(rt; fault(&bytes[0..260]), 9);
+    assert_eq!(rt; fault(&bytes), Some(WrongLength));
+    assert_eq!(rt; fault(&bytes[0..260]), Some(CUT));
 }

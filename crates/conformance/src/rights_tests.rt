@@ -1,6 +1,11 @@
 // The orders of rights at their limits, and the whole table of the vector order.
 use locking::examples_stand;
-use rights::{ChangeKind, LadderOrder, Operation, RightsOrder, VectorOrder, change_of};
+use protocol::Refusal;
+use protocol::Refusal::BadThreshold;
+use rights::ChangeKind::{Relaxation, Restriction};
+use rights::Operation::{Read, Restrict, Write};
+use rights::{LadderOrder, RightsOrder, VectorOrder, change_of};
+use std::process::Abort;
 use std::test::Fail;
 
 #[test]
@@ -15,6 +20,14 @@ fn vector_rights_end_at_7(rt: HostRuntime) {
     assert_eq!(rt; VectorOrder.join(7, 7), 7);
     assert_eq!(rt; VectorOrder.join(7, 8), 0);
     assert_eq!(rt; VectorOrder.join(8, 7), 0);
+}
+
+// Holds an order to whether each code permits to read, to write and to restrict.
+fn check_permissions<O: RightsOrder>(rt: &impl Abort, order: &O, table: &[(u32, [bool; 3])]) {
+    for (code, expected) in table {
+        let permitted = [Read, Write, Restrict].map(|operation| order.permits(*code, operation));
+        assert_eq!(rt; permitted, *expected, "code {code}");
+    }
 }
 
 #[test]
@@ -32,18 +45,12 @@ fn vector_permissions(rt: HostRuntime) {
         (8, [false, false, false]),
         (15, [false, false, false]),
     ];
-    for (code, [read, write, restrict]) in table {
-        assert_eq!(rt; VectorOrder.permits(code, Operation::Read), read);
-        assert_eq!(rt; VectorOrder.permits(code, Operation::Write), write);
-        assert_eq!(rt; VectorOrder.permits(code, Operation::Restrict), restrict);
-    }
+    check_permissions(&rt, &VectorOrder, &table);
 }
 
-fn ladder() -> Result<LadderOrder, Fail> {
-    match LadderOrder::new(10, 20, 30) {
-        Ok(order) => Ok(order),
-        Err(_) => Err(Fail::new("thresholds 10, 20 and 30 are refused")),
-    }
+// With thresholds 10, 20 and 30.
+fn ladder() -> Result<LadderOrder, Refusal> {
+    LadderOrder::new(10, 20, 30)
 }
 
 #[test]
@@ -71,55 +78,43 @@ fn ladder_permissions(rt: HostRuntime) -> Result<(), Fail> {
         (100, [true, true, true]),
         (101, [false, false, false]),
     ];
-    for (code, [read, write, restrict]) in table {
-        assert_eq!(rt; order.permits(code, Operation::Read), read);
-        assert_eq!(rt; order.permits(code, Operation::Write), write);
-        assert_eq!(rt; order.permits(code, Operation::Restrict), restrict);
-    }
+    check_permissions(&rt, &order, &table);
     Ok(())
 }
 
-fn accepts(read: u32, write: u32, restrict: u32) -> bool {
-    LadderOrder::check(read, write, restrict).is_ok()
-        && LadderOrder::new(read, write, restrict).is_ok()
-}
-
-fn refuses(read: u32, write: u32, restrict: u32) -> bool {
-    match (
-        LadderOrder::check(read, write, restrict),
-        LadderOrder::new(read, write, restrict),
-    ) {
-        (Err(first), Err(second)) => first.number() == 17 && second.number() == 17,
-        _ => false,
-    }
+// What the thresholds come to when they are checked, and when an order is made of them.
+fn thresholds(read: u32, write: u32, restrict: u32) -> [Result<(), Refusal>; 2] {
+    let checked = LadderOrder::check(read, write, restrict);
+    let made = LadderOrder::new(read, write, restrict);
+    [checked, made.map(|_| ())]
 }
 
 #[test]
 fn thresholds_from_1_to_100(rt: HostRuntime) {
     for t in [1, 100] {
-        assert!(rt; accepts(t, 50, 50));
-        assert!(rt; accepts(50, t, 50));
-        assert!(rt; accepts(50, 50, t));
+        assert_eq!(rt; thresholds(t, 50, 50), [Ok(()); 2]);
+        assert_eq!(rt; thresholds(50, t, 50), [Ok(()); 2]);
+        assert_eq!(rt; thresholds(50, 50, t), [Ok(()); 2]);
     }
     for t in [0, 101] {
-        assert!(rt; refuses(t, 50, 50));
-        assert!(rt; refuses(50, t, 50));
-        assert!(rt; refuses(50, 50, t));
+        assert_eq!(rt; thresholds(t, 50, 50), [Err(BadThreshold); 2]);
+        assert_eq!(rt; thresholds(50, t, 50), [Err(BadThreshold); 2]);
+        assert_eq!(rt; thresholds(50, 50, t), [Err(BadThreshold); 2]);
     }
 }
 
 #[test]
 fn vector_changes(rt: HostRuntime) {
-    assert_eq!(rt; change_of(&VectorOrder, 2, 3), ChangeKind::Relaxation);
-    assert_eq!(rt; change_of(&VectorOrder, 3, 2), ChangeKind::Restriction);
-    assert_eq!(rt; change_of(&VectorOrder, 3, 4), ChangeKind::Restriction);
+    assert_eq!(rt; change_of(&VectorOrder, 2, 3), Relaxation);
+    assert_eq!(rt; change_of(&VectorOrder, 3, 2), Restriction);
+    assert_eq!(rt; change_of(&VectorOrder, 3, 4), Restriction);
 }
 
 #[test]
 fn ladder_changes(rt: HostRuntime) -> Result<(), Fail> {
     let order = ladder()?;
-    assert_eq!(rt; change_of(&order, 20, 30), ChangeKind::Relaxation);
-    assert_eq!(rt; change_of(&order, 30, 30), ChangeKind::Relaxation);
-    assert_eq!(rt; change_of(&order, 30, 20), ChangeKind::Restriction);
+    assert_eq!(rt; change_of(&order, 20, 30), Relaxation);
+    assert_eq!(rt; change_of(&order, 30, 30), Relaxation);
+    assert_eq!(rt; change_of(&order, 30, 20), Restriction);
     Ok(())
 }

@@ -1,6 +1,7 @@
 // What set-up refuses, at its limits and in its order.
-use crate::refusals::refusal;
-use protocol::{Object, Policy};
+use protocol::Object::{OfCell, OfPolicy};
+use protocol::Refusal::{BadPolicies, BadRights, TooMany};
+use protocol::{Object, Policy, Refusal};
 use rights::VectorOrder;
 use setup::check_setup;
 use stores::SliceStore;
@@ -9,56 +10,62 @@ fn on(object: Object) -> Policy {
     Policy { subject: 1, object }
 }
 
-// The refusal's number for so many cells, all 0, and these rights and policies.
-fn refused(cells: &mut [u32], rights: &mut [u32], policies: &[Policy]) -> u8 {
+// On these cells, rights and policies.
+fn set_up(cells: &mut [u32], rights: &mut [u32], policies: &[Policy]) -> Result<(), Refusal> {
     let cells = SliceStore::new(cells);
     let rights = SliceStore::new(rights);
-    refusal(check_setup(&cells, &rights, &VectorOrder, policies))
+    check_setup(&cells, &rights, &VectorOrder, policies)
 }
 
 #[test]
 fn at_most_256_cells(rt: HostRuntime) {
-    let policies = [on(Object::OfCell(255))];
-    assert_eq!(rt; refused(&mut [0; 256], &mut [7], &policies), 0);
-    assert_eq!(rt; refused(&mut [0; 257], &mut [7], &policies), 14);
+    let policies = [on(OfCell(255))];
+    assert_eq!(rt; set_up(&mut [0; 256], &mut [7], &policies), Ok(()));
+    assert_eq!(rt; set_up(&mut [0; 257], &mut [7], &policies), Err(TooMany));
 }
 
 #[test]
 fn at_most_64_policies(rt: HostRuntime) {
     assert_eq!(rt;
-        refused(&mut [0], &mut [7; 64], &[on(Object::OfPolicy(63)); 64]),
-        0
+        set_up(&mut [0], &mut [7; 64], &[on(OfPolicy(63)); 64]),
+        Ok(())
     );
     assert_eq!(rt;
-        refused(&mut [0], &mut [7; 65], &[on(Object::OfPolicy(63)); 65]),
-        14
+        set_up(&mut [0], &mut [7; 65], &[on(OfPolicy(63)); 65]),
+        Err(TooMany)
     );
 }
 
 #[test]
 fn as_many_policies_as_rights(rt: HostRuntime) {
-    let policies = [on(Object::OfCell(0)), on(Object::OfPolicy(0))];
-    assert_eq!(rt; refused(&mut [0], &mut [6, 7], &policies), 0);
-    assert_eq!(rt; refused(&mut [0], &mut [6], &policies), 15);
+    let policies = [on(OfCell(0)), on(OfPolicy(0))];
+    assert_eq!(rt; set_up(&mut [0], &mut [6, 7], &policies), Ok(()));
+    assert_eq!(rt; set_up(&mut [0], &mut [6], &policies), Err(BadPolicies));
 }
 
 #[test]
 fn every_object_is_there(rt: HostRuntime) {
-    assert_eq!(rt; refused(&mut [0; 4], &mut [6], &[on(Object::OfCell(3))]), 0);
+    assert_eq!(rt; set_up(&mut [0; 4], &mut [6], &[on(OfCell(3))]), Ok(()));
     assert_eq!(rt;
-        refused(&mut [0; 4], &mut [6], &[on(Object::OfCell(4))]),
-        15
+        set_up(&mut [0; 4], &mut [6], &[on(OfCell(4))]),
+        Err(BadPolicies)
     );
     assert_eq!(rt;
-        refused(&mut [0; 4], &mut [6], &[on(Object::OfPolicy(1))]),
-        15
+        set_up(&mut [0; 4], &mut [6], &[on(OfPolicy(1))]),
+        Err(BadPolicies)
     );
 }
 
 #[test]
 fn every_stored_code_is_a_right(rt: HostRuntime) {
-    assert_eq!(rt; refused(&mut [0], &mut [7], &[on(Object::OfCell(0))]), 0);
-    assert_eq!(rt; refused(&mut [0], &mut [8], &[on(Object::OfCell(0))]), 16);
+    assert_eq!(rt; set_up(&mut [0], &mut [7], &[on(OfCell(0))]), Ok(()));
+    assert_eq!(rt;
+        set_up(&mut [0], &mut [8], &[on(OfCell(0))]),
+        Err(BadRights)
+    );
     // The absent object comes first.
-    assert_eq!(rt; refused(&mut [0], &mut [8], &[on(Object::OfCell(1))]), 15);
+    assert_eq!(rt;
+        set_up(&mut [0], &mut [8], &[on(OfCell(1))]),
+        Err(BadPolicies)
+    );
 }

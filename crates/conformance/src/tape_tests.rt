@@ -1,45 +1,52 @@
 // Tapes: their requests, their faults with places, and their greatest length.
 use listing::list_tape;
 use protocol::Request;
-use records::read_tape;
+use records::{FaultValues, read_tape};
 use std::alloc::{AllocError, Global};
 use std::test::Fail;
 
-// How many requests a tape has, and its fault, the record's number and its first byte: zeros where it has none.
-fn reading(heap: Global, bytes: &[u8]) -> Result<(usize, u8, u32, u32), AllocError> {
+// How many requests a tape has, and its fault.
+fn reading(heap: Global, bytes: &[u8]) -> Result<(usize, Option<FaultValues>), AllocError> {
     let tape = read_tape(heap, bytes)?;
-    let count = tape.requests.len();
-    match tape.fault {
-        None => Ok((count, 0, 0, 0)),
-        Some(fault) => {
-            let values = fault.values();
-            Ok((count, values.fault, values.number, values.start))
-        }
-    }
+    Ok((tape.requests.len(), tape.fault_values()))
+}
+
+// A fault by its number, with the record's number and its first byte.
+fn fault(fault: u8, number: u32, start: u32) -> Option<FaultValues> {
+    Some(FaultValues {
+        fault,
+        number,
+        start,
+    })
 }
 
 #[test]
 fn requests_in_order(rt: HostRuntime) -> Result<(), Fail> {
     let tape = read_tape(rt.alloc(), &[1, 0, 2, 0, 1, 7, 0, 2, 0, 2])?;
-    assert!(rt; tape.requests.len() == 2);
-    assert_eq!(rt; tape.requests[0], Request::Open { subject: 1 });
-    assert_eq!(rt; tape.requests[1], Request::Commit { transaction: 2 });
+    assert_eq!(rt;
+        tape.requests.as_slice(),
+        [
+            Request::Open { subject: 1 },
+            Request::Commit { transaction: 2 }
+        ]
+        .as_slice()
+    );
     Ok(())
 }
 
 #[test]
 fn faults_have_places(rt: HostRuntime) -> Result<(), Fail> {
-    assert_eq!(rt; reading(rt.alloc(), &[])?, (0, 0, 0, 0));
-    assert_eq!(rt; reading(rt.alloc(), &[1, 0, 2, 0])?, (0, 9, 1, 0));
+    assert_eq!(rt; reading(rt.alloc(), &[])?, (0, None));
+    assert_eq!(rt; reading(rt.alloc(), &[1, 0, 2, 0])?, (0, fault(9, 1, 0)));
     // A record of 5 bytes, one of 7, and then a tag that is unknown.
     assert_eq!(rt;
         reading(rt.alloc(), &[1, 0, 2, 0, 1, 2, 0, 4, 0, 1, 0, 0, 9, 0, 0])?,
-        (2, 10, 3, 12)
+        (2, fault(10, 3, 12))
     );
     // What stands behind the first fault counts for nothing.
     assert_eq!(rt;
         reading(rt.alloc(), &[1, 0, 2, 0, 1, 7, 0, 1, 0, 9, 9, 9])?,
-        (1, 11, 2, 5)
+        (1, fault(11, 2, 5))
     );
     Ok(())
 }
@@ -51,9 +58,12 @@ fn at_most_60000_bytes(rt: HostRuntime) -> Result<(), Fail> {
     for _ in 0..12000 {
         bytes.extend_from_slice(&[1, 0, 2, 0, 1])?;
     }
-    assert_eq!(rt; reading(rt.alloc(), bytes.as_slice())?, (12000, 0, 0, 0));
+    assert_eq!(rt; reading(rt.alloc(), bytes.as_slice())?, (12000, None));
     bytes.push(1)?;
-    assert_eq!(rt; reading(rt.alloc(), bytes.as_slice())?, (0, 13, 0, 0));
+    assert_eq!(rt;
+        reading(rt.alloc(), bytes.as_slice())?,
+        (0, fault(13, 0, 0))
+    );
     Ok(())
 }
 

@@ -1,53 +1,48 @@
 // A workspace at its limit.
-use crate::refusals::refusal;
-use protocol::Object;
+use protocol::Change;
+use protocol::Object::{OfCell, OfPolicy};
+use protocol::Refusal::TooManyChanges;
+use std::process::Abort;
 use workspace::Workspace;
+
+// A workspace with a change of each of the cells 0 to 15, to 5.
+fn full(rt: &impl Abort) -> Workspace {
+    let mut workspace = Workspace::new();
+    for cell in 0..16 {
+        assert!(rt; workspace.has_room(OfCell(cell)));
+        assert_eq!(rt; workspace.put(OfCell(cell), 5), Ok(()));
+    }
+    workspace
+}
 
 #[test]
 fn a_workspace_holds_16_changes(rt: HostRuntime) {
-    let mut workspace = Workspace::new();
-    for cell in 0..16 {
-        assert!(rt; workspace.has_room(Object::OfCell(cell)));
-        assert_eq!(rt; refusal(workspace.put(Object::OfCell(cell), 5)), 0);
-    }
+    let mut workspace = full(&rt);
     assert_eq!(rt; workspace.len(), 16);
-    assert!(rt; !workspace.has_room(Object::OfPolicy(0)));
-    assert_eq!(rt; refusal(workspace.put(Object::OfPolicy(0), 9)), 7);
-    assert!(rt; workspace.value_of(Object::OfPolicy(0)).is_none());
+    assert!(rt; !workspace.has_room(OfPolicy(0)));
+    assert_eq!(rt; workspace.put(OfPolicy(0), 9), Err(TooManyChanges));
+    assert_eq!(rt; workspace.value_of(OfPolicy(0)), None);
     assert_eq!(rt; workspace.len(), 16);
 }
 
 #[test]
 fn a_replaced_change_takes_no_room(rt: HostRuntime) {
-    let mut workspace = Workspace::new();
-    for cell in 0..16 {
-        assert_eq!(rt; refusal(workspace.put(Object::OfCell(cell), 5)), 0);
-    }
-    assert!(rt; workspace.has_room(Object::OfCell(15)));
-    assert_eq!(rt; refusal(workspace.put(Object::OfCell(15), 4294967295)), 0);
-    assert_eq!(rt;
-        workspace.value_of(Object::OfCell(15)).unwrap_or(0),
-        4294967295
-    );
-    assert_eq!(rt; workspace.value_of(Object::OfCell(14)).unwrap_or(0), 5);
+    let mut workspace = full(&rt);
+    assert!(rt; workspace.has_room(OfCell(15)));
+    assert_eq!(rt; workspace.put(OfCell(15), 4294967295), Ok(()));
+    assert_eq!(rt; workspace.value_of(OfCell(15)), Some(4294967295));
+    assert_eq!(rt; workspace.value_of(OfCell(14)), Some(5));
     assert_eq!(rt; workspace.len(), 16);
 }
 
 #[test]
 fn changes_keep_their_order(rt: HostRuntime) {
     let mut workspace = Workspace::new();
-    assert_eq!(rt; refusal(workspace.put(Object::OfCell(3), 10)), 0);
-    assert_eq!(rt; refusal(workspace.put(Object::OfPolicy(3), 20)), 0);
-    assert_eq!(rt; refusal(workspace.put(Object::OfCell(3), 11)), 0);
-    assert_eq!(rt; value_at(&workspace, 0), 11);
-    assert_eq!(rt; value_at(&workspace, 1), 20);
-    assert!(rt; workspace.get(2).is_none());
-}
-
-// The value of the change at the index, or 0 past the end.
-fn value_at(workspace: &Workspace, index: usize) -> u32 {
-    match workspace.get(index) {
-        Some(change) => change.value,
-        None => 0,
-    }
+    assert_eq!(rt; workspace.put(OfCell(3), 10), Ok(()));
+    assert_eq!(rt; workspace.put(OfPolicy(3), 20), Ok(()));
+    assert_eq!(rt; workspace.put(OfCell(3), 11), Ok(()));
+    let change = |object, value| Some(Change { object, value });
+    assert_eq!(rt; workspace.get(0), change(OfCell(3), 11));
+    assert_eq!(rt; workspace.get(1), change(OfPolicy(3), 20));
+    assert_eq!(rt; workspace.get(2), None);
 }

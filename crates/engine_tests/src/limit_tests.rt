@@ -1,13 +1,18 @@
 // The limits of cells, transactions and changes.
-use crate::steps::Ask::*;
-use crate::steps::Told::*;
-use crate::steps::{Told, check_store, follow, on_cell, on_policy, work};
-use day::run_day;
+use crate::steps::{
+    check_store, commit, day_on, deploy, follow, give_up, on_cell, on_policy, open, open_each,
+    read, set, show, work, write,
+};
 use engine::Engine;
-use protocol::{Answer, Policy};
+use protocol::Answer::{Granted, Refused, Wait};
+use protocol::Refusal::{
+    Absent, NoFreeSlot, NoSuchTransaction, NotPermitted, TooMany, TooManyChanges, TooManyOpened,
+};
+use protocol::{Answer, Policy, Refusal};
 use rights::{RightsOrder, VectorOrder};
+use std::array;
 use std::process::Abort;
-use stores::{SliceStore, Store, TableStore};
+use stores::{Store, TableStore};
 
 // Cell 254 is there and has no policy; cell 256 is not there, which comes first.
 #[test]
@@ -15,71 +20,50 @@ fn cell_255_is_the_last_of_256(rt: HostRuntime) {
     let mut cells = [0; 256];
     cells[255] = 77;
     let steps = [
-        (Open(1), Granted(1)),
-        (Deploy(1, 0), Granted(0)),
-        (Read(1, 255), Granted(77)),
-        (Read(1, 254), Refused(6)),
-        (Read(1, 256), Refused(4)),
-        (Write(1, 256, 1), Refused(4)),
-        (Write(1, 255, 78), Granted(0)),
-        (Commit(1), Granted(1)),
+        (open(1), Granted(1)),
+        (deploy(1, 0), Granted(0)),
+        (read(1, 255), Granted(77)),
+        (read(1, 254), Refused(NotPermitted)),
+        (read(1, 256), Refused(Absent)),
+        (write(1, 256, 1), Refused(Absent)),
+        (write(1, 255, 78), Granted(0)),
+        (commit(1), Granted(1)),
     ];
     work(&rt, &mut cells, &mut [6], &[on_cell(1, 255)], &steps);
     assert_eq!(rt; (cells[254], cells[255]), (0, 78));
 }
 
-// The number of a refused set-up, or with 0 how many requests were answered.
-fn day_of_writing(cells: &mut [u32], rights: &mut [u32], answers: &mut [Answer]) -> (u8, usize) {
-    let mut cells = SliceStore::new(cells);
-    let mut rights = SliceStore::new(rights);
-    let policies = [on_cell(1, 0)];
-    let requests = [
-        Open(1).request(),
-        Deploy(1, 0).request(),
-        Write(1, 0, 9).request(),
-        Commit(1).request(),
-    ];
-    let day = run_day(
-        &mut cells,
-        &mut rights,
-        &VectorOrder,
-        &policies,
-        &requests,
-        answers,
-    );
-    match day {
-        Ok(count) => (0, count),
-        Err(refusal) => (refusal.number(), 0),
-    }
+// Subject 1 writes 9 to cell 0.
+fn day_of_writing(
+    cells: &mut [u32],
+    rights: &mut [u32],
+    answers: &mut [Answer],
+) -> Result<usize, Refusal> {
+    let requests = [open(1), deploy(1, 0), write(1, 0, 9), commit(1)];
+    day_on(cells, rights, &[on_cell(1, 0)], &requests, answers)
 }
 
 #[test]
 fn a_day_on_256_cells_runs(rt: HostRuntime) {
     let mut cells = [5; 256];
-    let mut answers = [Answer::Wait(9); 4];
-    assert_eq!(rt; day_of_writing(&mut cells, &mut [7], &mut answers), (0, 4));
+    let mut answers = [Wait(9); 4];
+    assert_eq!(rt; day_of_writing(&mut cells, &mut [7], &mut answers), Ok(4));
     assert_eq!(rt; (cells[0], cells[1]), (9, 5));
-    let [opened, deployed, written, committed] = answers;
-    assert_eq!(rt; Told::of(opened), Granted(1));
-    assert_eq!(rt; Told::of(deployed), Granted(0));
-    assert_eq!(rt; Told::of(written), Granted(0));
-    assert_eq!(rt; Told::of(committed), Granted(1));
+    assert_eq!(rt; answers, [Granted(1), Granted(0), Granted(0), Granted(1)]);
 }
 
 #[test]
 fn a_day_on_257_cells_is_refused(rt: HostRuntime) {
     let mut cells = [5; 257];
     let mut rights = [7];
-    let mut answers = [Answer::Wait(9); 4];
+    let mut answers = [Wait(9); 4];
     assert_eq!(rt;
         day_of_writing(&mut cells, &mut rights, &mut answers),
-        (14, 0)
+        Err(TooMany)
     );
     assert_eq!(rt; cells, [5; 257]);
     assert_eq!(rt; rights, [7]);
-    for answer in answers {
-        assert_eq!(rt; Told::of(answer), Wait(9));
-    }
+    assert_eq!(rt; answers, [Wait(9); 4]);
 }
 
 // Set-up refuses 257 cells, so there is no slot, and no number is a transaction's.
@@ -88,16 +72,16 @@ fn an_engine_on_257_cells_has_no_slot(rt: HostRuntime) {
     let mut cells = [5; 257];
     let mut rights = [7];
     let steps = [
-        (Open(1), Refused(2)),
-        (Deploy(1, 0), Refused(3)),
-        (Read(1, 0), Refused(3)),
-        (Write(1, 0, 9), Refused(3)),
-        (Show(1, 0), Refused(3)),
-        (Set(1, 0, 4), Refused(3)),
-        (Commit(1), Refused(3)),
-        (GiveUp(1), Refused(3)),
-        (GiveUp(0), Refused(3)),
-        (Open(1), Refused(2)),
+        (open(1), Refused(NoFreeSlot)),
+        (deploy(1, 0), Refused(NoSuchTransaction)),
+        (read(1, 0), Refused(NoSuchTransaction)),
+        (write(1, 0, 9), Refused(NoSuchTransaction)),
+        (show(1, 0), Refused(NoSuchTransaction)),
+        (set(1, 0, 4), Refused(NoSuchTransaction)),
+        (commit(1), Refused(NoSuchTransaction)),
+        (give_up(1), Refused(NoSuchTransaction)),
+        (give_up(0), Refused(NoSuchTransaction)),
+        (open(1), Refused(NoFreeSlot)),
     ];
     work(&rt, &mut cells, &mut rights, &[on_cell(1, 0)], &steps);
     assert_eq!(rt; cells, [5; 257]);
@@ -111,24 +95,23 @@ fn sixteen_transactions_at_once(rt: HostRuntime) {
     let mut rights = TableStore::new(&[6]);
     let policies = [on_cell(1, 0)];
     let mut engine = Engine::new(&mut cells, &mut rights, &VectorOrder, &policies);
-    for number in 1..17 {
-        assert_eq!(rt; Told::of(engine.open(1)), Granted(number));
-    }
+    open_each(&rt, &mut engine, 1..17);
     let steps = [
-        (Open(1), Refused(2)),
-        (GiveUp(5), Granted(0)),
-        (Open(1), Granted(17)),
-        (Open(1), Refused(2)),
-        (Commit(16), Granted(1)),
-        (Open(1), Granted(18)),
-        (Open(1), Refused(2)),
-        (GiveUp(5), Refused(3)),
-        (GiveUp(16), Refused(3)),
+        (open(1), Refused(NoFreeSlot)),
+        (give_up(5), Granted(0)),
+        (open(1), Granted(17)),
+        (open(1), Refused(NoFreeSlot)),
+        (commit(16), Granted(1)),
+        (open(1), Granted(18)),
+        (open(1), Refused(NoFreeSlot)),
+        (give_up(5), Refused(NoSuchTransaction)),
+        (give_up(16), Refused(NoSuchTransaction)),
     ];
     follow(&rt, &mut engine, &steps);
 }
 
-// 49,984 transactions end. The last 16, up to number 50,000, stay open, so that no slot is free either: 1 comes before 2. Where a slot is free again, it is still 1.
+// 49,984 transactions end. The last 16, up to number 50,000, stay open, so that no slot is free either: that too many were opened comes first, and stays where a slot
+// is free again.
 #[test]
 fn fifty_thousand_transactions_in_a_day(rt: HostRuntime) {
     let mut cells = TableStore::new(&[0]);
@@ -136,30 +119,24 @@ fn fifty_thousand_transactions_in_a_day(rt: HostRuntime) {
     let policies = [on_cell(1, 0)];
     let mut engine = Engine::new(&mut cells, &mut rights, &VectorOrder, &policies);
     for number in 1..49985u16 {
-        assert_eq!(rt; Told::of(engine.open(1)), Granted(u32::from(number)));
-        assert_eq!(rt; Told::of(engine.give_up(number)), Granted(0));
+        assert_eq!(rt; engine.open(1), Granted(u32::from(number)));
+        assert_eq!(rt; engine.give_up(number), Granted(0));
     }
-    for number in 49985..50001 {
-        assert_eq!(rt; Told::of(engine.open(1)), Granted(number));
-    }
+    open_each(&rt, &mut engine, 49985..50001);
     let steps = [
-        (Open(1), Refused(1)),
-        (GiveUp(49984), Refused(3)),
-        (Deploy(50000, 0), Granted(0)),
-        (GiveUp(50000), Granted(0)),
-        (Open(1), Refused(1)),
-        (Deploy(49985, 0), Granted(0)),
+        (open(1), Refused(TooManyOpened)),
+        (give_up(49984), Refused(NoSuchTransaction)),
+        (deploy(50000, 0), Granted(0)),
+        (give_up(50000), Granted(0)),
+        (open(1), Refused(TooManyOpened)),
+        (deploy(49985, 0), Granted(0)),
     ];
     follow(&rt, &mut engine, &steps);
 }
 
 // Policy i is subject 1's, on cell i.
 fn on_17_cells() -> [Policy; 17] {
-    let mut policies = [on_cell(1, 0); 17];
-    for cell in 0..17u16 {
-        policies[cell as usize] = on_cell(1, cell);
-    }
-    policies
+    array::from_fn(|cell| on_cell(1, cell as u16))
 }
 
 // Opens transaction 1, with policies 0 to 16 deployed, and writes 10 to the first so many cells.
@@ -168,12 +145,12 @@ fn write_cells<C: Store, R: Store, O: RightsOrder>(
     engine: &mut Engine<'_, '_, '_, C, R, O>,
     count: u16,
 ) {
-    assert_eq!(rt; Told::of(engine.open(1)), Granted(1));
+    assert_eq!(rt; engine.open(1), Granted(1));
     for policy in 0..17 {
-        assert_eq!(rt; Told::of(engine.deploy(1, policy)), Granted(0));
+        assert_eq!(rt; engine.deploy(1, policy), Granted(0));
     }
     for cell in 0..count {
-        assert_eq!(rt; Told::of(engine.write(1, cell, 10)), Granted(0));
+        assert_eq!(rt; engine.write(1, cell, 10), Granted(0));
     }
 }
 
@@ -186,12 +163,12 @@ fn a_workspace_takes_sixteen_changes(rt: HostRuntime) {
     let mut engine = Engine::new(&mut cells, &mut rights, &VectorOrder, &policies);
     write_cells(&rt, &mut engine, 16);
     let steps = [
-        (Write(1, 16, 26), Refused(7)),
-        (Write(1, 3, 99), Granted(0)),
-        (Write(1, 16, 26), Refused(7)),
-        (Read(1, 16), Granted(5)),
-        (Read(1, 3), Granted(99)),
-        (Commit(1), Granted(1)),
+        (write(1, 16, 26), Refused(TooManyChanges)),
+        (write(1, 3, 99), Granted(0)),
+        (write(1, 16, 26), Refused(TooManyChanges)),
+        (read(1, 16), Granted(5)),
+        (read(1, 3), Granted(99)),
+        (commit(1), Granted(1)),
     ];
     follow(&rt, &mut engine, &steps);
     let mut expected = [10; 17];
@@ -200,8 +177,8 @@ fn a_workspace_takes_sixteen_changes(rt: HostRuntime) {
     check_store(&rt, &cells, &expected);
 }
 
-// 15 cells and a right are 16 changes. Cell 15 has a policy, and 7 comes before wait: transaction 2 has locked it. Cell 16 has none: 6 comes before 7. A second
-// change of the right still fits.
+// 15 cells and a right are 16 changes. Cell 15 has a policy, and too many changes come before wait: transaction 2 has locked it. Cell 16 has none: no permission comes
+// before too many changes. A second change of the right still fits.
 #[test]
 fn a_right_is_a_change_too(rt: HostRuntime) {
     let mut cells = TableStore::new(&[5; 17]);
@@ -211,15 +188,15 @@ fn a_right_is_a_change_too(rt: HostRuntime) {
     let mut engine = Engine::new(&mut cells, &mut rights, &VectorOrder, &policies);
     write_cells(&rt, &mut engine, 15);
     let steps = [
-        (Set(1, 0, 6), Granted(0)),
-        (Open(1), Granted(2)),
-        (Deploy(2, 15), Granted(0)),
-        (Write(2, 15, 2), Granted(0)),
-        (Write(1, 15, 1), Refused(7)),
-        (Write(1, 16, 1), Refused(6)),
-        (Set(1, 0, 7), Granted(0)),
-        (Commit(1), Granted(1)),
-        (GiveUp(2), Granted(0)),
+        (set(1, 0, 6), Granted(0)),
+        (open(1), Granted(2)),
+        (deploy(2, 15), Granted(0)),
+        (write(2, 15, 2), Granted(0)),
+        (write(1, 15, 1), Refused(TooManyChanges)),
+        (write(1, 16, 1), Refused(NotPermitted)),
+        (set(1, 0, 7), Granted(0)),
+        (commit(1), Granted(1)),
+        (give_up(2), Granted(0)),
     ];
     follow(&rt, &mut engine, &steps);
     let mut expected = [10; 17];

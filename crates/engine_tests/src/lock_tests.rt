@@ -1,11 +1,13 @@
 // Locks as the engine's answers show them.
-use crate::steps::Ask::*;
-use crate::steps::Told::*;
-use crate::steps::{Ask, Told, follow, on_cell, on_policy, work};
+use crate::steps::{
+    commit, deploy, follow, give_up, on_cell, on_policy, open, read, set, show, work, write,
+};
 use engine::Engine;
+use protocol::Answer::{Aborted, Granted, Refused, Wait};
+use protocol::Refusal::NotPermitted;
+use protocol::{Answer, Request};
 use rights::VectorOrder;
 use std::process::Abort;
-use std::test::Fail;
 use stores::TableStore;
 
 // The writer that waits has written nothing, and keeps no reader out. It names the lowest-numbered of the readers that are left.
@@ -13,24 +15,24 @@ use stores::TableStore;
 fn a_writer_waits_for_the_readers(rt: HostRuntime) {
     let mut cells = [5];
     let steps = [
-        (Open(1), Granted(1)),
-        (Open(1), Granted(2)),
-        (Open(1), Granted(3)),
-        (Deploy(1, 0), Granted(0)),
-        (Deploy(2, 0), Granted(0)),
-        (Deploy(3, 0), Granted(0)),
-        (Read(3, 0), Granted(5)),
-        (Read(2, 0), Granted(5)),
-        (Write(1, 0, 9), Wait(2)),
-        (Write(1, 0, 9), Wait(2)),
-        (Read(1, 0), Granted(5)),
-        (Write(3, 0, 9), Wait(1)),
-        (GiveUp(2), Granted(0)),
-        (Write(1, 0, 9), Wait(3)),
-        (Commit(3), Granted(1)),
-        (Write(1, 0, 9), Granted(0)),
-        (Read(1, 0), Granted(9)),
-        (Commit(1), Granted(2)),
+        (open(1), Granted(1)),
+        (open(1), Granted(2)),
+        (open(1), Granted(3)),
+        (deploy(1, 0), Granted(0)),
+        (deploy(2, 0), Granted(0)),
+        (deploy(3, 0), Granted(0)),
+        (read(3, 0), Granted(5)),
+        (read(2, 0), Granted(5)),
+        (write(1, 0, 9), Wait(2)),
+        (write(1, 0, 9), Wait(2)),
+        (read(1, 0), Granted(5)),
+        (write(3, 0, 9), Wait(1)),
+        (give_up(2), Granted(0)),
+        (write(1, 0, 9), Wait(3)),
+        (commit(3), Granted(1)),
+        (write(1, 0, 9), Granted(0)),
+        (read(1, 0), Granted(9)),
+        (commit(1), Granted(2)),
     ];
     work(&rt, &mut cells, &mut [6], &[on_cell(1, 0)], &steps);
     assert_eq!(rt; cells, [9]);
@@ -40,19 +42,19 @@ fn a_writer_waits_for_the_readers(rt: HostRuntime) {
 #[test]
 fn the_lowest_number_is_named(rt: HostRuntime) {
     let steps = [
-        (Open(1), Granted(1)),
-        (Open(1), Granted(2)),
-        (Open(1), Granted(3)),
-        (GiveUp(1), Granted(0)),
-        (Open(1), Granted(4)),
-        (Deploy(2, 0), Granted(0)),
-        (Deploy(3, 0), Granted(0)),
-        (Deploy(4, 0), Granted(0)),
-        (Read(4, 0), Granted(5)),
-        (Read(3, 0), Granted(5)),
-        (Write(2, 0, 9), Wait(3)),
-        (GiveUp(3), Granted(0)),
-        (Write(2, 0, 9), Wait(4)),
+        (open(1), Granted(1)),
+        (open(1), Granted(2)),
+        (open(1), Granted(3)),
+        (give_up(1), Granted(0)),
+        (open(1), Granted(4)),
+        (deploy(2, 0), Granted(0)),
+        (deploy(3, 0), Granted(0)),
+        (deploy(4, 0), Granted(0)),
+        (read(4, 0), Granted(5)),
+        (read(3, 0), Granted(5)),
+        (write(2, 0, 9), Wait(3)),
+        (give_up(3), Granted(0)),
+        (write(2, 0, 9), Wait(4)),
     ];
     work(&rt, &mut [5], &mut [6], &[on_cell(1, 0)], &steps);
 }
@@ -62,23 +64,23 @@ fn the_lowest_number_is_named(rt: HostRuntime) {
 fn a_reader_waits_for_a_writer(rt: HostRuntime) {
     let mut cells = [5];
     let steps = [
-        (Open(1), Granted(1)),
-        (Open(1), Granted(2)),
-        (Open(1), Granted(3)),
-        (Deploy(1, 0), Granted(0)),
-        (Deploy(2, 0), Granted(0)),
-        (Deploy(3, 0), Granted(0)),
-        (Write(1, 0, 9), Granted(0)),
-        (Read(2, 0), Wait(1)),
-        (Write(2, 0, 8), Wait(1)),
-        (Read(2, 0), Wait(1)),
-        (Write(1, 0, 10), Granted(0)),
-        (Commit(1), Granted(1)),
-        (Write(3, 0, 11), Granted(0)),
-        (Read(2, 0), Wait(3)),
-        (GiveUp(3), Granted(0)),
-        (Read(2, 0), Granted(10)),
-        (Commit(2), Granted(2)),
+        (open(1), Granted(1)),
+        (open(1), Granted(2)),
+        (open(1), Granted(3)),
+        (deploy(1, 0), Granted(0)),
+        (deploy(2, 0), Granted(0)),
+        (deploy(3, 0), Granted(0)),
+        (write(1, 0, 9), Granted(0)),
+        (read(2, 0), Wait(1)),
+        (write(2, 0, 8), Wait(1)),
+        (read(2, 0), Wait(1)),
+        (write(1, 0, 10), Granted(0)),
+        (commit(1), Granted(1)),
+        (write(3, 0, 11), Granted(0)),
+        (read(2, 0), Wait(3)),
+        (give_up(3), Granted(0)),
+        (read(2, 0), Granted(10)),
+        (commit(2), Granted(2)),
     ];
     work(&rt, &mut cells, &mut [6], &[on_cell(1, 0)], &steps);
     assert_eq!(rt; cells, [10]);
@@ -88,15 +90,15 @@ fn a_reader_waits_for_a_writer(rt: HostRuntime) {
 #[test]
 fn own_locks_on_a_cell_never_count(rt: HostRuntime) {
     let steps = [
-        (Open(1), Granted(1)),
-        (Open(1), Granted(2)),
-        (Deploy(1, 0), Granted(0)),
-        (Deploy(2, 0), Granted(0)),
-        (Read(1, 0), Granted(5)),
-        (Write(1, 0, 9), Granted(0)),
-        (Read(1, 0), Granted(9)),
-        (Write(1, 0, 10), Granted(0)),
-        (Read(2, 0), Wait(1)),
+        (open(1), Granted(1)),
+        (open(1), Granted(2)),
+        (deploy(1, 0), Granted(0)),
+        (deploy(2, 0), Granted(0)),
+        (read(1, 0), Granted(5)),
+        (write(1, 0, 9), Granted(0)),
+        (read(1, 0), Granted(9)),
+        (write(1, 0, 10), Granted(0)),
+        (read(2, 0), Wait(1)),
     ];
     work(&rt, &mut [5], &mut [6], &[on_cell(1, 0)], &steps);
 }
@@ -108,64 +110,60 @@ fn own_locks_on_a_policy_never_count(rt: HostRuntime) {
     let mut rights = [6, 7];
     let policies = [on_cell(9, 0), on_policy(9, 0)];
     let steps = [
-        (Open(9), Granted(1)),
-        (Open(9), Granted(2)),
-        (Deploy(1, 0), Granted(0)),
-        (Deploy(1, 1), Granted(0)),
-        (Show(1, 0), Granted(6)),
-        (Set(1, 0, 7), Granted(0)),
-        (Set(1, 0, 4), Granted(0)),
-        (Show(1, 0), Granted(4)),
-        (Deploy(1, 0), Granted(0)),
-        (Set(1, 0, 7), Granted(0)),
-        (Set(1, 0, 4), Granted(0)),
-        (Write(1, 0, 9), Granted(0)),
-        (Deploy(2, 0), Wait(1)),
-        (Commit(1), Granted(1)),
+        (open(9), Granted(1)),
+        (open(9), Granted(2)),
+        (deploy(1, 0), Granted(0)),
+        (deploy(1, 1), Granted(0)),
+        (show(1, 0), Granted(6)),
+        (set(1, 0, 7), Granted(0)),
+        (set(1, 0, 4), Granted(0)),
+        (show(1, 0), Granted(4)),
+        (deploy(1, 0), Granted(0)),
+        (set(1, 0, 7), Granted(0)),
+        (set(1, 0, 4), Granted(0)),
+        (write(1, 0, 9), Granted(0)),
+        (deploy(2, 0), Wait(1)),
+        (commit(1), Granted(1)),
     ];
     work(&rt, &mut [5], &mut rights, &policies, &steps);
     assert_eq!(rt; rights, [4, 7]);
 }
 
 // What transaction 2 is answered, after transaction 1 was granted what it holds. Policy 0 has right 4, and both may do all with it.
-fn asked_beside(rt: &impl Abort, held: Ask, asked: Ask) -> Result<Told, Fail> {
+fn asked_beside(rt: &impl Abort, held: Request, asked: Request) -> Answer {
     let mut cells = TableStore::new(&[5]);
     let mut rights = TableStore::new(&[4, 7]);
     let policies = [on_cell(9, 0), on_policy(9, 0)];
     let mut engine = Engine::new(&mut cells, &mut rights, &VectorOrder, &policies);
     let steps = [
-        (Open(9), Granted(1)),
-        (Open(9), Granted(2)),
-        (Deploy(1, 1), Granted(0)),
-        (Deploy(2, 1), Granted(0)),
+        (open(9), Granted(1)),
+        (open(9), Granted(2)),
+        (deploy(1, 1), Granted(0)),
+        (deploy(2, 1), Granted(0)),
     ];
     follow(rt, &mut engine, &steps);
-    let Granted(_) = Told::of(engine.call(held.request())) else {
-        return Err(Fail::new("not granted"));
-    };
-    Ok(Told::of(engine.call(asked.request())))
+    assert!(rt; matches!(engine.call(held), Granted(_)));
+    engine.call(asked)
 }
 
 // From 4, a set to 6 relaxes and a set to 0 restricts. Each row is a held lock, with what read, relax, restrict and deploy are answered: a show tells the right 4, and
 // a restrict beside a deploy lock strikes one.
 #[test]
-fn every_lock_beside_every_lock(rt: HostRuntime) -> Result<(), Fail> {
+fn every_lock_beside_every_lock(rt: HostRuntime) {
+    let asked = [show(2, 0), set(2, 0, 6), set(2, 0, 0), deploy(2, 0)];
     let table = [
-        (Show(1, 0), [Granted(4), Wait(1), Wait(1), Granted(0)]),
-        (Set(1, 0, 6), [Wait(1), Wait(1), Wait(1), Wait(1)]),
-        (Set(1, 0, 0), [Wait(1), Wait(1), Wait(1), Wait(1)]),
+        (show(1, 0), [Granted(4), Wait(1), Wait(1), Granted(0)]),
+        (set(1, 0, 6), [Wait(1), Wait(1), Wait(1), Wait(1)]),
+        (set(1, 0, 0), [Wait(1), Wait(1), Wait(1), Wait(1)]),
         (
-            Deploy(1, 0),
+            deploy(1, 0),
             [Granted(4), Granted(0), Granted(1), Granted(0)],
         ),
     ];
-    for (held, [to_read, to_relax, to_restrict, to_deploy]) in table {
-        assert_eq!(rt; asked_beside(&rt, held, Show(2, 0))?, to_read);
-        assert_eq!(rt; asked_beside(&rt, held, Set(2, 0, 6))?, to_relax);
-        assert_eq!(rt; asked_beside(&rt, held, Set(2, 0, 0))?, to_restrict);
-        assert_eq!(rt; asked_beside(&rt, held, Deploy(2, 0))?, to_deploy);
+    for (held, expected) in table {
+        let answers = asked.map(|asked| asked_beside(&rt, held, asked));
+        assert_eq!(rt; answers, expected, "beside {held:?}");
     }
-    Ok(())
 }
 
 // Transaction 3 has deployed policy 0 before it is relaxed, and goes on. Transaction 2 comes later: it waits, and the deploy that waits has deployed nothing.
@@ -173,21 +171,21 @@ fn every_lock_beside_every_lock(rt: HostRuntime) -> Result<(), Fail> {
 fn a_relaxer_keeps_deployers_out(rt: HostRuntime) {
     let policies = [on_cell(1, 0), on_policy(9, 0)];
     let steps = [
-        (Open(9), Granted(1)),
-        (Open(1), Granted(2)),
-        (Open(1), Granted(3)),
-        (Deploy(1, 1), Granted(0)),
-        (Deploy(3, 0), Granted(0)),
-        (Set(1, 0, 6), Granted(0)),
-        (Deploy(2, 0), Wait(1)),
-        (Deploy(2, 0), Wait(1)),
-        (Read(2, 0), Refused(6)),
-        (Deploy(3, 0), Granted(0)),
-        (Read(3, 0), Granted(5)),
-        (Commit(1), Granted(1)),
-        (Read(2, 0), Refused(6)),
-        (Deploy(2, 0), Granted(0)),
-        (Read(2, 0), Granted(5)),
+        (open(9), Granted(1)),
+        (open(1), Granted(2)),
+        (open(1), Granted(3)),
+        (deploy(1, 1), Granted(0)),
+        (deploy(3, 0), Granted(0)),
+        (set(1, 0, 6), Granted(0)),
+        (deploy(2, 0), Wait(1)),
+        (deploy(2, 0), Wait(1)),
+        (read(2, 0), Refused(NotPermitted)),
+        (deploy(3, 0), Granted(0)),
+        (read(3, 0), Granted(5)),
+        (commit(1), Granted(1)),
+        (read(2, 0), Refused(NotPermitted)),
+        (deploy(2, 0), Granted(0)),
+        (read(2, 0), Granted(5)),
     ];
     work(&rt, &mut [5], &mut [4, 2], &policies, &steps);
 }
@@ -199,21 +197,21 @@ fn the_restricter_is_not_struck(rt: HostRuntime) {
     let mut rights = [6, 7];
     let policies = [on_cell(9, 0), on_policy(9, 0)];
     let steps = [
-        (Open(9), Granted(1)),
-        (Open(9), Granted(2)),
-        (Open(9), Granted(3)),
-        (Deploy(1, 0), Granted(0)),
-        (Deploy(2, 0), Granted(0)),
-        (Deploy(3, 0), Granted(0)),
-        (Deploy(3, 1), Granted(0)),
-        (Set(3, 0, 4), Granted(2)),
-        (Read(1, 0), Struck(3, 0)),
-        (Read(2, 0), Struck(3, 0)),
-        (Read(3, 0), Granted(5)),
-        (Write(3, 0, 9), Granted(0)),
-        (Commit(3), Granted(1)),
-        (Commit(2), Struck(3, 0)),
-        (Commit(1), Struck(3, 0)),
+        (open(9), Granted(1)),
+        (open(9), Granted(2)),
+        (open(9), Granted(3)),
+        (deploy(1, 0), Granted(0)),
+        (deploy(2, 0), Granted(0)),
+        (deploy(3, 0), Granted(0)),
+        (deploy(3, 1), Granted(0)),
+        (set(3, 0, 4), Granted(2)),
+        (read(1, 0), Aborted { by: 3, policy: 0 }),
+        (read(2, 0), Aborted { by: 3, policy: 0 }),
+        (read(3, 0), Granted(5)),
+        (write(3, 0, 9), Granted(0)),
+        (commit(3), Granted(1)),
+        (commit(2), Aborted { by: 3, policy: 0 }),
+        (commit(1), Aborted { by: 3, policy: 0 }),
     ];
     work(&rt, &mut [5], &mut rights, &policies, &steps);
     assert_eq!(rt; rights, [4, 7]);
@@ -224,19 +222,19 @@ fn the_restricter_is_not_struck(rt: HostRuntime) {
 fn nobody_is_struck_by_one_that_waits(rt: HostRuntime) {
     let policies = [on_cell(1, 0), on_policy(9, 0)];
     let steps = [
-        (Open(1), Granted(1)),
-        (Open(9), Granted(2)),
-        (Open(9), Granted(3)),
-        (Deploy(1, 0), Granted(0)),
-        (Deploy(2, 1), Granted(0)),
-        (Deploy(3, 1), Granted(0)),
-        (Show(2, 0), Granted(6)),
-        (Set(3, 0, 4), Wait(2)),
-        (Read(1, 0), Granted(5)),
-        (Show(3, 0), Granted(6)),
-        (Commit(2), Granted(1)),
-        (Set(3, 0, 4), Granted(1)),
-        (Read(1, 0), Struck(3, 0)),
+        (open(1), Granted(1)),
+        (open(9), Granted(2)),
+        (open(9), Granted(3)),
+        (deploy(1, 0), Granted(0)),
+        (deploy(2, 1), Granted(0)),
+        (deploy(3, 1), Granted(0)),
+        (show(2, 0), Granted(6)),
+        (set(3, 0, 4), Wait(2)),
+        (read(1, 0), Granted(5)),
+        (show(3, 0), Granted(6)),
+        (commit(2), Granted(1)),
+        (set(3, 0, 4), Granted(1)),
+        (read(1, 0), Aborted { by: 3, policy: 0 }),
     ];
     work(&rt, &mut [5], &mut [6, 7], &policies, &steps);
 }
@@ -247,19 +245,19 @@ fn a_restricter_strikes_once(rt: HostRuntime) {
     let mut rights = [6, 7];
     let policies = [on_cell(1, 0), on_policy(9, 0)];
     let steps = [
-        (Open(1), Granted(1)),
-        (Open(9), Granted(2)),
-        (Open(1), Granted(3)),
-        (Deploy(1, 0), Granted(0)),
-        (Deploy(2, 1), Granted(0)),
-        (Set(2, 0, 4), Granted(1)),
-        (Deploy(3, 0), Wait(2)),
-        (Set(2, 0, 0), Granted(0)),
-        (Set(2, 0, 2), Granted(0)),
-        (Commit(2), Granted(1)),
-        (Deploy(3, 0), Granted(0)),
-        (Read(3, 0), Refused(6)),
-        (Write(3, 0, 9), Granted(0)),
+        (open(1), Granted(1)),
+        (open(9), Granted(2)),
+        (open(1), Granted(3)),
+        (deploy(1, 0), Granted(0)),
+        (deploy(2, 1), Granted(0)),
+        (set(2, 0, 4), Granted(1)),
+        (deploy(3, 0), Wait(2)),
+        (set(2, 0, 0), Granted(0)),
+        (set(2, 0, 2), Granted(0)),
+        (commit(2), Granted(1)),
+        (deploy(3, 0), Granted(0)),
+        (read(3, 0), Refused(NotPermitted)),
+        (write(3, 0, 9), Granted(0)),
     ];
     work(&rt, &mut [5], &mut rights, &policies, &steps);
     assert_eq!(rt; rights, [2, 7]);

@@ -1,71 +1,56 @@
-// Requests in few words, the answers they are to get, and engines that are held to them.
+// Requests in few words, and engines and days on given stores.
+use day::run_day;
 use engine::Engine;
-use protocol::{Answer, Object, Policy, Request};
+use protocol::{Answer, Object, Policy, Refusal, Request, TransactionId};
 use rights::{RightsOrder, VectorOrder};
+use std::ops::Range;
 use std::process::Abort;
 use stores::{SliceStore, Store};
 
-// A request: an open has a subject. Any other has its transaction, the cell or the policy, and the value or the right.
-#[derive(Clone, Copy)]
-pub(crate) enum Ask {
-    Open(u16),
-    Deploy(u16, u16),
-    Read(u16, u16),
-    Write(u16, u16, u32),
-    Show(u16, u16),
-    Set(u16, u16, u32),
-    Commit(u16),
-    GiveUp(u16),
+pub(crate) fn open(subject: u16) -> Request {
+    Request::Open { subject }
 }
 
-impl Ask {
-    pub(crate) fn request(self) -> Request {
-        match self {
-            Ask::Open(subject) => Request::Open { subject },
-            Ask::Deploy(transaction, policy) => Request::Deploy {
-                transaction,
-                policy,
-            },
-            Ask::Read(transaction, cell) => Request::Read { transaction, cell },
-            Ask::Write(transaction, cell, value) => Request::Write {
-                transaction,
-                cell,
-                value,
-            },
-            Ask::Show(transaction, policy) => Request::Show {
-                transaction,
-                policy,
-            },
-            Ask::Set(transaction, policy, right) => Request::Set {
-                transaction,
-                policy,
-                right,
-            },
-            Ask::Commit(transaction) => Request::Commit { transaction },
-            Ask::GiveUp(transaction) => Request::GiveUp { transaction },
-        }
+pub(crate) fn deploy(transaction: TransactionId, policy: u16) -> Request {
+    Request::Deploy {
+        transaction,
+        policy,
     }
 }
 
-// An answer that can be compared and shown. A refusal is its number.
-#[derive(Clone, Copy, PartialEq, Eq, Debug)]
-pub(crate) enum Told {
-    Granted(u32),
-    Wait(u16),
-    Refused(u8),
-    // By that transaction, over that policy.
-    Struck(u16, u16),
+pub(crate) fn read(transaction: TransactionId, cell: u16) -> Request {
+    Request::Read { transaction, cell }
 }
 
-impl Told {
-    pub(crate) fn of(answer: Answer) -> Told {
-        match answer {
-            Answer::Granted(number) => Told::Granted(number),
-            Answer::Wait(transaction) => Told::Wait(transaction),
-            Answer::Refused(refusal) => Told::Refused(refusal.number()),
-            Answer::Aborted { by, policy } => Told::Struck(by, policy),
-        }
+pub(crate) fn write(transaction: TransactionId, cell: u16, value: u32) -> Request {
+    Request::Write {
+        transaction,
+        cell,
+        value,
     }
+}
+
+pub(crate) fn show(transaction: TransactionId, policy: u16) -> Request {
+    Request::Show {
+        transaction,
+        policy,
+    }
+}
+
+pub(crate) fn set(transaction: TransactionId, policy: u16, right: u32) -> Request {
+    Request::Set {
+        transaction,
+        policy,
+        right,
+    }
+}
+
+pub(crate) fn commit(transaction: TransactionId) -> Request {
+    Request::Commit { transaction }
+}
+
+pub(crate) fn give_up(transaction: TransactionId) -> Request {
+    Request::GiveUp { transaction }
 }
 
 pub(crate) fn on_cell(subject: u16, cell: u16) -> Policy {
@@ -78,16 +63,14 @@ pub(crate) fn on_policy(subject: u16, policy: u16) -> Policy {
     Policy { subject, object }
 }
 
-// Makes the requests in turn. The number of a step, from 0, is compared too, so that a failure shows it.
+// Makes the requests in turn, each beside the answer that it is to get. Steps are numbered from 0.
 pub(crate) fn follow<C: Store, R: Store, O: RightsOrder>(
     rt: &impl Abort,
     engine: &mut Engine<'_, '_, '_, C, R, O>,
-    steps: &[(Ask, Told)],
+    steps: &[(Request, Answer)],
 ) {
-    for at in 0..steps.len() {
-        let (ask, expected) = steps[at];
-        let told = Told::of(engine.call(ask.request()));
-        assert_eq!(rt; (at, told), (at, expected));
+    for (at, (request, expected)) in steps.iter().enumerate() {
+        assert_eq!(rt; engine.call(*request), *expected, "step {at}");
     }
 }
 
@@ -98,7 +81,7 @@ pub(crate) fn work_on<C: Store, R: Store, O: RightsOrder>(
     rights: &mut R,
     order: &O,
     policies: &[Policy],
-    steps: &[(Ask, Told)],
+    steps: &[(Request, Answer)],
 ) {
     let mut engine = Engine::new(cells, rights, order, policies);
     follow(rt, &mut engine, steps);
@@ -110,17 +93,48 @@ pub(crate) fn work(
     cells: &mut [u32],
     rights: &mut [u32],
     policies: &[Policy],
-    steps: &[(Ask, Told)],
+    steps: &[(Request, Answer)],
 ) {
     let mut cells = SliceStore::new(cells);
     let mut rights = SliceStore::new(rights);
     work_on(rt, &mut cells, &mut rights, &VectorOrder, policies, steps);
 }
 
+// A whole day, with the vector order and the two buffers as stores.
+pub(crate) fn day_on(
+    cells: &mut [u32],
+    rights: &mut [u32],
+    policies: &[Policy],
+    requests: &[Request],
+    answers: &mut [Answer],
+) -> Result<usize, Refusal> {
+    let mut cells = SliceStore::new(cells);
+    let mut rights = SliceStore::new(rights);
+    run_day(
+        &mut cells,
+        &mut rights,
+        &VectorOrder,
+        policies,
+        requests,
+        answers,
+    )
+}
+
+// Opens transactions for subject 1, which get these numbers.
+pub(crate) fn open_each<C: Store, R: Store, O: RightsOrder>(
+    rt: &impl Abort,
+    engine: &mut Engine<'_, '_, '_, C, R, O>,
+    numbers: Range<u32>,
+) {
+    for number in numbers {
+        assert_eq!(rt; engine.open(1), Answer::Granted(number));
+    }
+}
+
 // Holds a store to its numbers.
 pub(crate) fn check_store<S: Store>(rt: &impl Abort, store: &S, numbers: &[u32]) {
     assert_eq!(rt; store.size(), numbers.len());
-    for at in 0..numbers.len() {
-        assert_eq!(rt; (at, store.read(at).ok()), (at, Some(numbers[at])));
+    for (at, number) in numbers.iter().enumerate() {
+        assert_eq!(rt; store.read(at), Ok(*number), "position {at}");
     }
 }

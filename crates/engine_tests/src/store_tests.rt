@@ -1,63 +1,69 @@
 // One day with every kind of answer, on all pairs of stores and under both orders.
-use crate::steps::Ask::*;
-use crate::steps::Told::*;
-use crate::steps::{Told, check_store, follow, on_cell, on_policy, work, work_on};
+use crate::steps::{
+    check_store, commit, deploy, follow, give_up, on_cell, on_policy, open, read, set, show, work,
+    work_on, write,
+};
 use engine::Engine;
 use log_store::LogStore;
+use protocol::Answer::{Aborted, Granted, Refused, Wait};
 use protocol::Policy;
+use protocol::Refusal::{
+    Absent, NoSuchTransaction, NotARight, NotPermitted, OtherSubject, TooManyChanges,
+};
 use rights::{LadderOrder, RightsOrder, VectorOrder};
+use std::array;
 use std::process::Abort;
 use std::test::Fail;
 use stores::{SliceStore, Store, TableStore};
 
 // The cells at the start of the day.
 fn cells_before() -> [u32; 20] {
-    let mut cells = [1; 20];
-    cells[0] = 10;
-    cells[1] = 20;
-    cells
+    array::from_fn(|cell| match cell {
+        0 => 10,
+        1 => 20,
+        _ => 1,
+    })
 }
 
 // At the end subject 2 has written cell 0, subject 1 cell 1, and subject 4 the cells 3 to 18, with 203 to 218.
 fn cells_after() -> [u32; 20] {
-    let mut cells = [1; 20];
-    cells[0] = 12;
-    cells[1] = 9;
-    for cell in 3..19usize {
-        cells[cell] = 200 + cell as u32;
-    }
-    cells
+    array::from_fn(|cell| match cell {
+        0 => 12,
+        1 => 9,
+        3..19 => 200 + cell as u32,
+        _ => 1,
+    })
 }
 
 // Only 4, 6 and 7 are used. They permit operation 0, operations 0 and 1, and all three. Of two of these, one contains the other, and the larger number is their join. So
 // a ladder with thresholds 4, 6 and 7 permits and joins alike.
 fn rights_before() -> [u32; 22] {
-    let mut rights = [6; 22];
-    rights[1] = 4;
-    rights[4] = 7;
-    rights
+    array::from_fn(|policy| match policy {
+        1 => 4,
+        4 => 7,
+        _ => 6,
+    })
 }
 
 // At the end policy 0 is restricted to 4, and policy 1 relaxed to 6.
 fn rights_after() -> [u32; 22] {
-    let mut rights = [6; 22];
-    rights[0] = 4;
-    rights[4] = 7;
-    rights
+    array::from_fn(|policy| match policy {
+        0 => 4,
+        4 => 7,
+        _ => 6,
+    })
 }
 
 // Policies 5 to 21 are subject 4's, on cells 3 to 19.
 fn policies() -> [Policy; 22] {
-    let mut policies = [on_cell(4, 0); 22];
-    policies[0] = on_cell(1, 0);
-    policies[1] = on_cell(1, 1);
-    policies[2] = on_cell(2, 0);
-    policies[3] = on_policy(9, 1);
-    policies[4] = on_policy(9, 0);
-    for cell in 3..20u16 {
-        policies[cell as usize + 2] = on_cell(4, cell);
-    }
-    policies
+    array::from_fn(|policy| match policy {
+        0 => on_cell(1, 0),
+        1 => on_cell(1, 1),
+        2 => on_cell(2, 0),
+        3 => on_policy(9, 1),
+        4 => on_policy(9, 0),
+        _ => on_cell(4, (policy - 2) as u16),
+    })
 }
 
 // Subject 1 reads, and subject 2 waits for it. Subject 9 relaxes policy 1, which holds from its commit.
@@ -66,29 +72,29 @@ fn morning<C: Store, R: Store, O: RightsOrder>(
     engine: &mut Engine<'_, '_, '_, C, R, O>,
 ) {
     let steps = [
-        (Open(1), Granted(1)),
-        (Open(2), Granted(2)),
-        (Open(9), Granted(3)),
-        (Read(4, 0), Refused(3)),
-        (Deploy(1, 0), Granted(0)),
-        (Deploy(1, 1), Granted(0)),
-        (Deploy(1, 2), Refused(5)),
-        (Deploy(1, 22), Refused(4)),
-        (Deploy(2, 2), Granted(0)),
-        (Read(1, 0), Granted(10)),
-        (Write(2, 0, 5), Wait(1)),
-        (Write(1, 1, 9), Refused(6)),
-        (Deploy(3, 3), Granted(0)),
-        (Set(3, 1, 101), Refused(8)),
-        (Set(3, 1, 6), Granted(0)),
-        (Write(1, 1, 9), Refused(6)),
-        (Commit(3), Granted(1)),
-        (Write(1, 1, 9), Granted(0)),
-        (Write(1, 0, 11), Granted(0)),
-        (Read(1, 0), Granted(11)),
-        (Read(2, 0), Wait(1)),
-        (Commit(1), Granted(2)),
-        (Read(2, 0), Granted(11)),
+        (open(1), Granted(1)),
+        (open(2), Granted(2)),
+        (open(9), Granted(3)),
+        (read(4, 0), Refused(NoSuchTransaction)),
+        (deploy(1, 0), Granted(0)),
+        (deploy(1, 1), Granted(0)),
+        (deploy(1, 2), Refused(OtherSubject)),
+        (deploy(1, 22), Refused(Absent)),
+        (deploy(2, 2), Granted(0)),
+        (read(1, 0), Granted(10)),
+        (write(2, 0, 5), Wait(1)),
+        (write(1, 1, 9), Refused(NotPermitted)),
+        (deploy(3, 3), Granted(0)),
+        (set(3, 1, 101), Refused(NotARight)),
+        (set(3, 1, 6), Granted(0)),
+        (write(1, 1, 9), Refused(NotPermitted)),
+        (commit(3), Granted(1)),
+        (write(1, 1, 9), Granted(0)),
+        (write(1, 0, 11), Granted(0)),
+        (read(1, 0), Granted(11)),
+        (read(2, 0), Wait(1)),
+        (commit(1), Granted(2)),
+        (read(2, 0), Granted(11)),
     ];
     follow(rt, engine, &steps);
 }
@@ -99,19 +105,19 @@ fn noon<C: Store, R: Store, O: RightsOrder>(
     engine: &mut Engine<'_, '_, '_, C, R, O>,
 ) {
     let steps = [
-        (Open(9), Granted(4)),
-        (Deploy(4, 4), Granted(0)),
-        (Show(4, 0), Granted(6)),
-        (Open(1), Granted(5)),
-        (Deploy(5, 0), Granted(0)),
-        (Set(4, 0, 4), Granted(1)),
-        (Show(4, 0), Granted(4)),
-        (Read(5, 0), Struck(4, 0)),
-        (Write(2, 0, 12), Granted(0)),
-        (Commit(4), Granted(3)),
-        (GiveUp(5), Struck(4, 0)),
-        (Commit(2), Granted(4)),
-        (Commit(5), Refused(3)),
+        (open(9), Granted(4)),
+        (deploy(4, 4), Granted(0)),
+        (show(4, 0), Granted(6)),
+        (open(1), Granted(5)),
+        (deploy(5, 0), Granted(0)),
+        (set(4, 0, 4), Granted(1)),
+        (show(4, 0), Granted(4)),
+        (read(5, 0), Aborted { by: 4, policy: 0 }),
+        (write(2, 0, 12), Granted(0)),
+        (commit(4), Granted(3)),
+        (give_up(5), Aborted { by: 4, policy: 0 }),
+        (commit(2), Granted(4)),
+        (commit(5), Refused(NoSuchTransaction)),
     ];
     follow(rt, engine, &steps);
 }
@@ -121,18 +127,15 @@ fn evening<C: Store, R: Store, O: RightsOrder>(
     rt: &impl Abort,
     engine: &mut Engine<'_, '_, '_, C, R, O>,
 ) {
-    assert_eq!(rt; Told::of(engine.open(4)), Granted(6));
+    assert_eq!(rt; engine.open(4), Granted(6));
     for policy in 5..22 {
-        assert_eq!(rt; Told::of(engine.deploy(6, policy)), Granted(0));
+        assert_eq!(rt; engine.deploy(6, policy), Granted(0));
     }
     for cell in 3..19 {
-        assert_eq!(rt;
-            Told::of(engine.write(6, cell, 200 + u32::from(cell))),
-            Granted(0)
-        );
+        assert_eq!(rt; engine.write(6, cell, 200 + u32::from(cell)), Granted(0));
     }
-    assert_eq!(rt; Told::of(engine.write(6, 19, 219)), Refused(7));
-    assert_eq!(rt; Told::of(engine.commit(6)), Granted(5));
+    assert_eq!(rt; engine.write(6, 19, 219), Refused(TooManyChanges));
+    assert_eq!(rt; engine.commit(6), Granted(5));
 }
 
 // The whole day, held to its answers and to what it leaves.
@@ -151,66 +154,68 @@ fn day<C: Store, R: Store, O: RightsOrder>(
     check_store(rt, rights, &rights_after());
 }
 
-// Puts the numbers into a store that has them all to come.
-fn fill<S: Store>(rt: &impl Abort, store: &mut S, numbers: &[u32]) {
-    for at in 0..numbers.len() {
-        assert!(rt; store.write(at, numbers[at]).is_ok());
+// A log store with these numbers, on bytes that are all 0.
+fn log_with<'a>(rt: &impl Abort, bytes: &'a mut [u8], numbers: &[u32]) -> LogStore<'a> {
+    let mut store = LogStore::new(bytes, numbers.len());
+    for (at, number) in numbers.iter().enumerate() {
+        assert_eq!(rt; store.write(at, *number), Ok(()));
     }
+    store
 }
 
-fn with_table_rights<C: Store, O: RightsOrder>(rt: &impl Abort, cells: &mut C, order: &O) {
-    let mut rights = TableStore::new(&rights_before());
-    day(rt, cells, &mut rights, order);
-}
-
-fn with_slice_rights<C: Store, O: RightsOrder>(rt: &impl Abort, cells: &mut C, order: &O) {
-    let mut numbers = rights_before();
-    let mut rights = SliceStore::new(&mut numbers);
-    day(rt, cells, &mut rights, order);
-    assert_eq!(rt; numbers, rights_after());
-}
-
-// 22 rights take 88 bytes, and four places 36, so that filling the log makes checkpoints.
-fn with_log_rights<C: Store, O: RightsOrder>(rt: &impl Abort, cells: &mut C, order: &O) {
+// The day on three stores of the cells, beside the rights in a store of each make. 22 rights take 88 bytes, and four places 36, so that filling the log makes
+// checkpoints.
+fn day_beside_each_make<C: Store, O: RightsOrder>(
+    rt: &impl Abort,
+    order: &O,
+    first: &mut C,
+    second: &mut C,
+    third: &mut C,
+) {
+    day(rt, first, &mut TableStore::new(&rights_before()), order);
+    let mut rights = rights_before();
+    day(rt, second, &mut SliceStore::new(&mut rights), order);
+    assert_eq!(rt; rights, rights_after());
     let mut bytes = [0; 124];
-    let mut rights = LogStore::new(&mut bytes, 22);
-    fill(rt, &mut rights, &rights_before());
-    day(rt, cells, &mut rights, order);
+    day(
+        rt,
+        third,
+        &mut log_with(rt, &mut bytes, &rights_before()),
+        order,
+    );
 }
 
+// The cells in tables. One function for each make of store, since each is made and compared in its own way.
 fn day_on_tables<O: RightsOrder>(rt: &impl Abort, order: &O) {
-    with_table_rights(rt, &mut TableStore::new(&cells_before()), order);
-    with_slice_rights(rt, &mut TableStore::new(&cells_before()), order);
-    with_log_rights(rt, &mut TableStore::new(&cells_before()), order);
+    let mut first = TableStore::new(&cells_before());
+    let mut second = TableStore::new(&cells_before());
+    let mut third = TableStore::new(&cells_before());
+    day_beside_each_make(rt, order, &mut first, &mut second, &mut third);
 }
 
 fn day_on_slices<O: RightsOrder>(rt: &impl Abort, order: &O) {
-    let mut first = cells_before();
-    let mut second = cells_before();
-    let mut third = cells_before();
-    with_table_rights(rt, &mut SliceStore::new(&mut first), order);
-    with_slice_rights(rt, &mut SliceStore::new(&mut second), order);
-    with_log_rights(rt, &mut SliceStore::new(&mut third), order);
-    assert_eq!(rt; first, cells_after());
-    assert_eq!(rt; second, cells_after());
-    assert_eq!(rt; third, cells_after());
+    let [mut first, mut second, mut third] = [cells_before(); 3];
+    day_beside_each_make(
+        rt,
+        order,
+        &mut SliceStore::new(&mut first),
+        &mut SliceStore::new(&mut second),
+        &mut SliceStore::new(&mut third),
+    );
+    assert_eq!(rt; [first, second, third], [cells_after(); 3]);
 }
 
 // 20 cells take 80 bytes. There are 20 writes before the day and 2 + 1 + 16 in it. With one place each but the first makes a checkpoint, with two every second from the
 // third on, and with 23 the 24th alone.
 fn day_on_logs<O: RightsOrder>(rt: &impl Abort, order: &O) {
-    let mut first = [0; 89];
-    let mut second = [0; 98];
-    let mut third = [0; 287];
-    let mut one_place = LogStore::new(&mut first, 20);
-    let mut two_places = LogStore::new(&mut second, 20);
-    let mut many_places = LogStore::new(&mut third, 20);
-    fill(rt, &mut one_place, &cells_before());
-    fill(rt, &mut two_places, &cells_before());
-    fill(rt, &mut many_places, &cells_before());
-    with_table_rights(rt, &mut one_place, order);
-    with_slice_rights(rt, &mut two_places, order);
-    with_log_rights(rt, &mut many_places, order);
+    let (mut one_place, mut two_places, mut many_places) = ([0; 89], [0; 98], [0; 287]);
+    day_beside_each_make(
+        rt,
+        order,
+        &mut log_with(rt, &mut one_place, &cells_before()),
+        &mut log_with(rt, &mut two_places, &cells_before()),
+        &mut log_with(rt, &mut many_places, &cells_before()),
+    );
 }
 
 #[test]
@@ -242,12 +247,12 @@ fn the_day_under_a_ladder(rt: HostRuntime) -> Result<(), Fail> {
 fn where_the_orders_differ(rt: HostRuntime) -> Result<(), Fail> {
     let policies = [on_cell(1, 0), on_policy(9, 0)];
     let mut steps = [
-        (Open(9), Granted(1)),
-        (Deploy(1, 1), Granted(0)),
-        (Set(1, 0, 6), Refused(6)),
+        (open(9), Granted(1)),
+        (deploy(1, 1), Granted(0)),
+        (set(1, 0, 6), Refused(NotPermitted)),
     ];
     work(&rt, &mut [0], &mut [1, 6], &policies, &steps);
-    steps[2] = (Set(1, 0, 6), Granted(0));
+    steps[2] = (set(1, 0, 6), Granted(0));
     let mut cells = TableStore::new(&[0]);
     let mut rights = TableStore::new(&[1, 6]);
     let ladder = LadderOrder::new(4, 6, 7)?;

@@ -1,9 +1,12 @@
 // What a struck transaction is answered, and what it has lost.
-use crate::steps::Ask::*;
-use crate::steps::Told::*;
-use crate::steps::{Ask, Told, follow, on_cell, on_policy, work};
+use crate::steps::{
+    commit, deploy, follow, give_up, on_cell, on_policy, open, open_each, read, set, show, work,
+    write,
+};
 use engine::Engine;
-use protocol::Policy;
+use protocol::Answer::{Aborted, Granted, Refused, Wait};
+use protocol::Refusal::{NoFreeSlot, NoSuchTransaction};
+use protocol::{Answer, Policy, Request};
 use rights::{RightsOrder, VectorOrder};
 use std::process::Abort;
 use stores::{SliceStore, Store, TableStore};
@@ -19,54 +22,45 @@ fn strike<C: Store, R: Store, O: RightsOrder>(
     engine: &mut Engine<'_, '_, '_, C, R, O>,
 ) {
     let steps = [
-        (Open(1), Granted(1)),
-        (Open(9), Granted(2)),
-        (Deploy(1, 1), Granted(0)),
-        (Write(1, 0, 50), Granted(0)),
-        (Deploy(2, 2), Granted(0)),
-        (Set(2, 1, 4), Granted(1)),
+        (open(1), Granted(1)),
+        (open(9), Granted(2)),
+        (deploy(1, 1), Granted(0)),
+        (write(1, 0, 50), Granted(0)),
+        (deploy(2, 2), Granted(0)),
+        (set(2, 1, 4), Granted(1)),
     ];
     follow(rt, engine, &steps);
 }
 
-fn strike_on<C: Store, R: Store>(
-    rt: &impl Abort,
-    cells: &mut C,
-    rights: &mut R,
-    steps: &[(Ask, Told)],
-) {
-    let policies = policies();
-    let mut engine = Engine::new(cells, rights, &VectorOrder, &policies);
-    strike(rt, &mut engine);
-    follow(rt, &mut engine, steps);
-}
-
 // Those steps and the given ones, on cells 5 and 8 and rights 6, 6 and 7; what is stored then.
-fn after_strike(rt: &impl Abort, steps: &[(Ask, Told)]) -> ([u32; 2], [u32; 3]) {
+fn after_strike(rt: &impl Abort, steps: &[(Request, Answer)]) -> ([u32; 2], [u32; 3]) {
     let mut cells = [5, 8];
     let mut rights = [6, 6, 7];
     let mut cell_store = SliceStore::new(&mut cells);
     let mut right_store = SliceStore::new(&mut rights);
-    strike_on(rt, &mut cell_store, &mut right_store, steps);
+    let policies = policies();
+    let mut engine = Engine::new(&mut cell_store, &mut right_store, &VectorOrder, &policies);
+    strike(rt, &mut engine);
+    follow(rt, &mut engine, steps);
     (cells, rights)
 }
 
-// Aborted comes before all but 3: cell 2 and policy 3 are absent, policy 0 is subject 2's, and 8 is no right.
+// Aborted comes before every refusal but that there is no such transaction: cell 2 and policy 3 are absent, policy 0 is subject 2's, and 8 is no right.
 #[test]
 fn every_call_is_answered_aborted(rt: HostRuntime) {
     let steps = [
-        (Deploy(1, 1), Struck(2, 1)),
-        (Read(1, 0), Struck(2, 1)),
-        (Write(1, 0, 51), Struck(2, 1)),
-        (Show(1, 1), Struck(2, 1)),
-        (Set(1, 1, 7), Struck(2, 1)),
-        (Read(1, 2), Struck(2, 1)),
-        (Deploy(1, 3), Struck(2, 1)),
-        (Deploy(1, 0), Struck(2, 1)),
-        (Set(1, 1, 8), Struck(2, 1)),
-        (Deploy(1, 1), Struck(2, 1)),
-        (Commit(2), Granted(1)),
-        (Read(1, 0), Struck(2, 1)),
+        (deploy(1, 1), Aborted { by: 2, policy: 1 }),
+        (read(1, 0), Aborted { by: 2, policy: 1 }),
+        (write(1, 0, 51), Aborted { by: 2, policy: 1 }),
+        (show(1, 1), Aborted { by: 2, policy: 1 }),
+        (set(1, 1, 7), Aborted { by: 2, policy: 1 }),
+        (read(1, 2), Aborted { by: 2, policy: 1 }),
+        (deploy(1, 3), Aborted { by: 2, policy: 1 }),
+        (deploy(1, 0), Aborted { by: 2, policy: 1 }),
+        (set(1, 1, 8), Aborted { by: 2, policy: 1 }),
+        (deploy(1, 1), Aborted { by: 2, policy: 1 }),
+        (commit(2), Granted(1)),
+        (read(1, 0), Aborted { by: 2, policy: 1 }),
     ];
     assert_eq!(rt; after_strike(&rt, &steps), ([5, 8], [6, 4, 7]));
 }
@@ -74,15 +68,15 @@ fn every_call_is_answered_aborted(rt: HostRuntime) {
 #[test]
 fn a_commit_ends_it(rt: HostRuntime) {
     let steps = [
-        (Commit(1), Struck(2, 1)),
-        (Commit(1), Refused(3)),
-        (GiveUp(1), Refused(3)),
-        (Deploy(1, 1), Refused(3)),
-        (Read(1, 0), Refused(3)),
-        (Write(1, 0, 51), Refused(3)),
-        (Show(1, 1), Refused(3)),
-        (Set(1, 1, 7), Refused(3)),
-        (Commit(2), Granted(1)),
+        (commit(1), Aborted { by: 2, policy: 1 }),
+        (commit(1), Refused(NoSuchTransaction)),
+        (give_up(1), Refused(NoSuchTransaction)),
+        (deploy(1, 1), Refused(NoSuchTransaction)),
+        (read(1, 0), Refused(NoSuchTransaction)),
+        (write(1, 0, 51), Refused(NoSuchTransaction)),
+        (show(1, 1), Refused(NoSuchTransaction)),
+        (set(1, 1, 7), Refused(NoSuchTransaction)),
+        (commit(2), Granted(1)),
     ];
     assert_eq!(rt; after_strike(&rt, &steps), ([5, 8], [6, 4, 7]));
 }
@@ -90,11 +84,11 @@ fn a_commit_ends_it(rt: HostRuntime) {
 #[test]
 fn giving_up_ends_it(rt: HostRuntime) {
     let steps = [
-        (GiveUp(1), Struck(2, 1)),
-        (GiveUp(1), Refused(3)),
-        (Commit(1), Refused(3)),
-        (Read(1, 0), Refused(3)),
-        (Commit(2), Granted(1)),
+        (give_up(1), Aborted { by: 2, policy: 1 }),
+        (give_up(1), Refused(NoSuchTransaction)),
+        (commit(1), Refused(NoSuchTransaction)),
+        (read(1, 0), Refused(NoSuchTransaction)),
+        (commit(2), Granted(1)),
     ];
     assert_eq!(rt; after_strike(&rt, &steps), ([5, 8], [6, 4, 7]));
 }
@@ -107,15 +101,13 @@ fn it_keeps_its_slot(rt: HostRuntime) {
     let policies = policies();
     let mut engine = Engine::new(&mut cells, &mut rights, &VectorOrder, &policies);
     strike(&rt, &mut engine);
-    for number in 3..17 {
-        assert_eq!(rt; Told::of(engine.open(1)), Granted(number));
-    }
+    open_each(&rt, &mut engine, 3..17);
     let steps = [
-        (Open(1), Refused(2)),
-        (Read(1, 0), Struck(2, 1)),
-        (Open(1), Refused(2)),
-        (Commit(1), Struck(2, 1)),
-        (Open(1), Granted(17)),
+        (open(1), Refused(NoFreeSlot)),
+        (read(1, 0), Aborted { by: 2, policy: 1 }),
+        (open(1), Refused(NoFreeSlot)),
+        (commit(1), Aborted { by: 2, policy: 1 }),
+        (open(1), Granted(17)),
     ];
     follow(&rt, &mut engine, &steps);
 }
@@ -126,21 +118,21 @@ fn its_write_lock_is_gone(rt: HostRuntime) {
     let mut cells = [5, 8];
     let mut rights = [6, 6, 7];
     let steps = [
-        (Open(1), Granted(1)),
-        (Open(9), Granted(2)),
-        (Open(2), Granted(3)),
-        (Deploy(1, 1), Granted(0)),
-        (Deploy(2, 2), Granted(0)),
-        (Deploy(3, 0), Granted(0)),
-        (Write(1, 0, 50), Granted(0)),
-        (Write(3, 0, 60), Wait(1)),
-        (Set(2, 1, 4), Granted(1)),
-        (Write(3, 0, 60), Granted(0)),
-        (Write(1, 0, 51), Struck(2, 1)),
-        (Read(3, 0), Granted(60)),
-        (Commit(1), Struck(2, 1)),
-        (Commit(3), Granted(1)),
-        (Commit(2), Granted(2)),
+        (open(1), Granted(1)),
+        (open(9), Granted(2)),
+        (open(2), Granted(3)),
+        (deploy(1, 1), Granted(0)),
+        (deploy(2, 2), Granted(0)),
+        (deploy(3, 0), Granted(0)),
+        (write(1, 0, 50), Granted(0)),
+        (write(3, 0, 60), Wait(1)),
+        (set(2, 1, 4), Granted(1)),
+        (write(3, 0, 60), Granted(0)),
+        (write(1, 0, 51), Aborted { by: 2, policy: 1 }),
+        (read(3, 0), Granted(60)),
+        (commit(1), Aborted { by: 2, policy: 1 }),
+        (commit(3), Granted(1)),
+        (commit(2), Granted(2)),
     ];
     work(&rt, &mut cells, &mut rights, &policies(), &steps);
     assert_eq!(rt; cells, [60, 8]);
@@ -150,17 +142,17 @@ fn its_write_lock_is_gone(rt: HostRuntime) {
 #[test]
 fn its_read_lock_is_gone(rt: HostRuntime) {
     let steps = [
-        (Open(1), Granted(1)),
-        (Open(9), Granted(2)),
-        (Open(2), Granted(3)),
-        (Deploy(1, 1), Granted(0)),
-        (Deploy(2, 2), Granted(0)),
-        (Deploy(3, 0), Granted(0)),
-        (Read(1, 0), Granted(5)),
-        (Write(3, 0, 60), Wait(1)),
-        (Set(2, 1, 4), Granted(1)),
-        (Read(1, 0), Struck(2, 1)),
-        (Write(3, 0, 60), Granted(0)),
+        (open(1), Granted(1)),
+        (open(9), Granted(2)),
+        (open(2), Granted(3)),
+        (deploy(1, 1), Granted(0)),
+        (deploy(2, 2), Granted(0)),
+        (deploy(3, 0), Granted(0)),
+        (read(1, 0), Granted(5)),
+        (write(3, 0, 60), Wait(1)),
+        (set(2, 1, 4), Granted(1)),
+        (read(1, 0), Aborted { by: 2, policy: 1 }),
+        (write(3, 0, 60), Granted(0)),
     ];
     work(&rt, &mut [5, 8], &mut [6, 6, 7], &policies(), &steps);
 }
@@ -169,13 +161,13 @@ fn its_read_lock_is_gone(rt: HostRuntime) {
 #[test]
 fn its_deploy_lock_is_gone(rt: HostRuntime) {
     let steps = [
-        (Commit(2), Granted(1)),
-        (Deploy(1, 1), Struck(2, 1)),
-        (Open(9), Granted(3)),
-        (Deploy(3, 2), Granted(0)),
-        (Set(3, 1, 0), Granted(0)),
-        (Commit(3), Granted(2)),
-        (Commit(1), Struck(2, 1)),
+        (commit(2), Granted(1)),
+        (deploy(1, 1), Aborted { by: 2, policy: 1 }),
+        (open(9), Granted(3)),
+        (deploy(3, 2), Granted(0)),
+        (set(3, 1, 0), Granted(0)),
+        (commit(3), Granted(2)),
+        (commit(1), Aborted { by: 2, policy: 1 }),
     ];
     assert_eq!(rt; after_strike(&rt, &steps), ([5, 8], [6, 0, 7]));
 }
@@ -184,12 +176,12 @@ fn its_deploy_lock_is_gone(rt: HostRuntime) {
 #[test]
 fn its_changes_are_gone(rt: HostRuntime) {
     let steps = [
-        (Open(2), Granted(3)),
-        (Deploy(3, 0), Granted(0)),
-        (Read(3, 0), Granted(5)),
-        (Commit(1), Struck(2, 1)),
-        (Read(3, 0), Granted(5)),
-        (Commit(3), Granted(1)),
+        (open(2), Granted(3)),
+        (deploy(3, 0), Granted(0)),
+        (read(3, 0), Granted(5)),
+        (commit(1), Aborted { by: 2, policy: 1 }),
+        (read(3, 0), Granted(5)),
+        (commit(3), Granted(1)),
     ];
     assert_eq!(rt; after_strike(&rt, &steps), ([5, 8], [6, 6, 7]));
 }
@@ -200,17 +192,17 @@ fn its_relaxation_is_gone(rt: HostRuntime) {
     let mut rights = [6, 7, 7];
     let policies = [on_cell(1, 0), on_policy(9, 0), on_policy(10, 1)];
     let steps = [
-        (Open(9), Granted(1)),
-        (Open(10), Granted(2)),
-        (Open(1), Granted(3)),
-        (Deploy(1, 1), Granted(0)),
-        (Deploy(2, 2), Granted(0)),
-        (Set(1, 0, 7), Granted(0)),
-        (Deploy(3, 0), Wait(1)),
-        (Set(2, 1, 4), Granted(1)),
-        (Deploy(3, 0), Granted(0)),
-        (Commit(1), Struck(2, 1)),
-        (Commit(2), Granted(1)),
+        (open(9), Granted(1)),
+        (open(10), Granted(2)),
+        (open(1), Granted(3)),
+        (deploy(1, 1), Granted(0)),
+        (deploy(2, 2), Granted(0)),
+        (set(1, 0, 7), Granted(0)),
+        (deploy(3, 0), Wait(1)),
+        (set(2, 1, 4), Granted(1)),
+        (deploy(3, 0), Granted(0)),
+        (commit(1), Aborted { by: 2, policy: 1 }),
+        (commit(2), Granted(1)),
     ];
     work(&rt, &mut [5], &mut rights, &policies, &steps);
     assert_eq!(rt; rights, [6, 4, 7]);
@@ -225,21 +217,21 @@ fn each_keeps_who_struck_it(rt: HostRuntime) {
         on_policy(9, 1),
     ];
     let steps = [
-        (Open(1), Granted(1)),
-        (Open(2), Granted(2)),
-        (Open(9), Granted(3)),
-        (Open(9), Granted(4)),
-        (Deploy(1, 0), Granted(0)),
-        (Deploy(2, 1), Granted(0)),
-        (Deploy(3, 2), Granted(0)),
-        (Deploy(4, 3), Granted(0)),
-        (Set(3, 0, 4), Granted(1)),
-        (Set(4, 1, 4), Granted(1)),
-        (Read(1, 0), Struck(3, 0)),
-        (Read(2, 0), Struck(4, 1)),
-        (GiveUp(4), Granted(0)),
-        (Commit(2), Struck(4, 1)),
-        (Commit(1), Struck(3, 0)),
+        (open(1), Granted(1)),
+        (open(2), Granted(2)),
+        (open(9), Granted(3)),
+        (open(9), Granted(4)),
+        (deploy(1, 0), Granted(0)),
+        (deploy(2, 1), Granted(0)),
+        (deploy(3, 2), Granted(0)),
+        (deploy(4, 3), Granted(0)),
+        (set(3, 0, 4), Granted(1)),
+        (set(4, 1, 4), Granted(1)),
+        (read(1, 0), Aborted { by: 3, policy: 0 }),
+        (read(2, 0), Aborted { by: 4, policy: 1 }),
+        (give_up(4), Granted(0)),
+        (commit(2), Aborted { by: 4, policy: 1 }),
+        (commit(1), Aborted { by: 3, policy: 0 }),
     ];
     work(&rt, &mut [5], &mut [6, 6, 7, 7], &policies, &steps);
 }
