@@ -1,5 +1,5 @@
 -- A lock that is granted or has to wait, on the machine's slots.
-use Rattle.std.proofs.Common.{◌≡◌, ℕ, zero, suc, ◌+◌, ◌<◌, Bool, true, false, cond, not, ◌&&◌, ◌||◌, eqb, ◌≢◌, ◌⊎◌, List, [], ◌∷◌, map, length, get_or, Some, None, Option, sym, refl, ap, ap₂, ◌∙◌, inl, inr, arith}
+use Rattle.std.proofs.Common.{◌≡◌, ℕ, zero, suc, ◌+◌, ◌<◌, Bool, true, false, cond, not, ◌&&◌, ◌||◌, eqb, ◌≢◌, ◌⊎◌, List, [], ◌∷◌, map, length, get_or, Some, None, Option, sym, refl, ap, ap₂, ◌∙◌, subst, inl, inr, arith}
 use mathlib.Core.Path.{fun_ext}
 use Rattle.std.proofs.lemmas.Simd.{map-map}
 use Rattle.std.proofs.lemmas.List.{ext_get_or, get_or-map, length-map}
@@ -15,13 +15,13 @@ use Rattle.slot_table.specs.declared.slot.OpenSlot.{OpenSlot}
 use Rattle.slot_table.specs.Tables.{used}
 use Rattle.slot_table.proofs.Invariants.{distinct_at, few_used}
 use Rattle.engine.specs.declared.tables.Tables.{Tables}
-use Rattle.engine.specs.Tables.{OpenIn, asker_in, slots_in}
+use Rattle.engine.specs.Tables.{OpenIn, asker_in, slots_in, Got}
 use Rattle.slot_table.specs.declared.slot.Slot.{Slot}
 use Rattle.slot_table.specs.declared.slot.Slot.TheVariants.{Free, Open, Aborted}
 use Rattle.slot_table.specs.Slots.{transaction_of, slot_of, slots_from, slot_named, is_open, Idle, abort_if}
 use Rattle.slot_table.specs.Lowest.{number_if_open, lowest_in}
 use Rattle.engine.specs.Asking.{with_lock}
-use Rattle.slot_table.proofs.SlotLists.{length_slots_from, slots_from_at}
+use Rattle.slot_table.proofs.SlotLists.{length_slots_from, slots_from_at, standing_is}
 use Rattle.engine.proofs.Counts.{signals_in, counted}
 use Rattle.engine.proofs.Verdicts.{other_conflicts, other_signals, own_conflicts, own_signals, self_conflicts, self_signals, idle_conflicts, idle_signals}
 
@@ -76,21 +76,15 @@ slots_mapped h g ss ts f same each =
     slots_from_at g ts k ∙ each k lt' ∙ ap f (sym (slots_from_at h ss k)) ∙ sym (get_or-map f (slots_from h 0 ss) k free free (omega (arith, length_slots_from h 0 ss))))
 
 -- An open transaction asks for a lock.
-module _ (t : Tables) (o : OpenSlot) (asked : Lock) (mine : OpenIn t o) where
+module _ (t : Tables) (i : ℕ) (x : Transaction) (asked : Lock) (mine : get_or (used t.slots) i Free ≡ Open x) where
   abbrev h : ℕ → Lock → Bool
   h = held t.locks
 
   abbrev ss : List Slot
   ss = used t.slots
 
-  abbrev i : ℕ
-  i = o.slot.at
-
-  abbrev x : Transaction
-  x = o.transaction
-
   abbrev asker : ModelTransaction
-  asker = asker_in t o
+  asker = transaction_of (h i) x
 
   -- another slot, of another number
   differs : (k : ℕ) (s : Slot) → get_or ss k Free ≡ s → k ≢ i → slot_named s x.id ≡ true → ⊥
@@ -188,3 +182,36 @@ module _ (t : Tables) (o : OpenSlot) (asked : Lock) (mine : OpenIn t o) where
     -- The asker's own slot stays.
     pub still_there : (ts : List Slot) (n p : ℕ) → ((k : ℕ) → get_or ts k Free ≡ abort_if (struck k) n p (get_or ss k Free)) → get_or ts i Free ≡ Open x
     still_there ts n p each = each i ∙ ap (abort_if (struck i) n p) mine ∙ ap (λ b. cond b (Aborted x.id n p) (Open x)) not_struck
+
+-- The same for the one who asks, as the search has found it
+module _ (t : Tables) (o : OpenSlot) (asked : Lock) (mine : OpenIn t o) where
+  means : asker_in t o ≡ transaction_of (held t.locks o.slot.at) mine.transaction
+  means = standing_is (held t.locks) (used t.slots) o mine
+
+  pub blocker_found : (b : ℕ → Bool) → ((k : ℕ) → b k ≡ conflicts (held t.locks) asked o.slot.at k) → blocker (asker_in t o) asked (slots_in t) ≡ lowest_in b 0 (used t.slots)
+  blocker_found b same = subst (λ x. blocker x asked (slots_in t) ≡ lowest_in b 0 (used t.slots)) (sym means) (blocker_is t o.slot.at mine.transaction asked mine.there b same)
+
+  module _ (t' : Tables) (struck : ℕ → Bool) (granted : Granted (held t.locks) asked o.slot.at (held t'.locks) struck) (size : length (used t'.slots) ≡ length (used t.slots))
+      (each : (k : ℕ) → get_or (used t'.slots) k Free ≡ abort_if (struck k) o.id (lock_number asked) (get_or (used t.slots) k Free)) where
+    abbrev i : ℕ
+    i = o.slot.at
+
+    abbrev x : Transaction
+    x = mine.transaction
+
+    same_each : (k : ℕ) → get_or (used t'.slots) k Free ≡ abort_if (struck k) x.id (lock_number asked) (get_or (used t.slots) k Free)
+    same_each = rw mine.number each
+
+    abbrev stands : OpenIn t' o
+    stands = record { transaction = x; there = still_there t i x asked mine.there (held t'.locks) struck granted (used t'.slots) _ _ each; number = mine.number; subject = mine.subject }
+
+    pub got : (n : ℕ) → n ≡ count_below struck 16 → t'.slots.counts ≡ t.slots.counts → Got t o asked n t'
+    got n as_many kept =
+        record {
+          nobody_blocks = subst (λ y. blocker y asked (slots_in t) ≡ None) (sym means) (no_blocker t i x asked mine.there granted.nobody_conflicts);
+          counts_struck = as_many ∙ sym (subst (λ y. length (signalled y asked (slots_in t)) ≡ count_below struck 16) (sym means) (struck_count t i x asked mine.there (held t'.locks) struck granted));
+          slots_after = subst (λ y. slots_in t' ≡ replace (with_lock y asked) (map (strike y asked) (slots_in t))) (sym means) (slots_granted t i x asked mine.there (held t'.locks) struck granted (used t'.slots) size same_each);
+          counts_kept = kept;
+          still_open = stands;
+          asker_after = standing_is (held t'.locks) (used t'.slots) o stands ∙ subst (λ y. transaction_of (held t'.locks i) x ≡ with_lock y asked) (sym means) (mine_after t i x asked mine.there (held t'.locks) struck granted);
+        }

@@ -2,15 +2,14 @@
 use Rattle.std.specs.Prelude.{◌≡◌, ℕ, ◌+◌, true, false, List, [], map, length, Some, None, Option, Ok, Err, Result, slice_index_or}
 use Rattle.protocol.specs.declared.policy.Object.{Object}
 use Rattle.protocol.specs.declared.policy.Object.TheVariants.{OfCell, OfPolicy}
-use Rattle.workspace.specs.Workspaces.{changes_of}
 use Rattle.serial.specs.Words.{Store, Call, Deploys, Reads, Writes, Shows, Sets}
 use Rattle.serial.specs.Changes.{room}
 use Rattle.serial.specs.Locks.{Lock}
 use Rattle.serial.specs.Model.{State, Slot as ModelSlot, Transaction as ModelTransaction, blocker, signalled, strike, replace, end}
 use Rattle.lock_table.specs.Held.{held, has_row}
-use Rattle.slot_table.specs.declared.slot.Transaction.{Transaction}
-use Rattle.slot_table.specs.declared.slot.Slot.TheVariants.{Free, Open}
-use Rattle.slot_table.specs.Slots.{transaction_of, slot_named}
+use Rattle.slot_table.specs.declared.slot.Slot.TheVariants.{Free}
+use Rattle.slot_table.specs.Slots.{slot_named}
+use Rattle.slot_table.specs.Finds.{Stands, standing}
 use Rattle.slot_table.specs.Edits.{with_change}
 use Rattle.slot_table.specs.Tables.{used, slots_of, state_of}
 use Rattle.slot_table.specs.declared.slot.OpenSlot.{OpenSlot}
@@ -31,35 +30,28 @@ table_state s t = state_of s (held t.locks) t.slots
 abbrev pub closed_state : Store → State
 closed_state s = record { store = s; slots = []; opened = 0; commits = 0 }
 
--- Slot i is open, and has this transaction.
-abbrev pub OpenAt : Tables → ℕ → Transaction → Type 0
-OpenAt t i x = slice_index_or (used t.slots) i Free ≡ Open x
-
 -- Slot i is in use, for a transaction of that number.
 abbrev pub NamedAt : Tables → ℕ → ℕ → Type 0
 NamedAt t i n = slot_named (slice_index_or (used t.slots) i Free) n ≡ true
 
-abbrev pub transaction_in : Tables → ℕ → Transaction → ModelTransaction
-transaction_in t i x = transaction_of (held t.locks i) x
-
--- The same of an open transaction with its slot
+-- An open transaction stands in its slot, and what it means.
 abbrev pub OpenIn : Tables → OpenSlot → Type 0
-OpenIn t o = OpenAt t o.slot.at o.transaction
+OpenIn t o = Stands (used t.slots) o
 
 abbrev pub asker_in : Tables → OpenSlot → ModelTransaction
-asker_in t o = transaction_in t o.slot.at o.transaction
+asker_in t o = standing (held t.locks) (used t.slots) o
 
--- The transaction x in slot i has got the lock, and so many others were struck.
-pub record Got (t : Tables) (i : ℕ) (x : Transaction) (lock : Lock) (n : ℕ) (t' : Tables) : Type 0 where
-  pub nobody_blocks : blocker (transaction_in t i x) lock (slots_in t) ≡ None
-  pub counts_struck : n ≡ length (signalled (transaction_in t i x) lock (slots_in t))
-  pub slots_after : slots_in t' ≡ replace (with_lock (transaction_in t i x) lock) (map (strike (transaction_in t i x) lock) (slots_in t))
+-- The asker has got the lock, and so many others were struck.
+pub record Got (t : Tables) (o : OpenSlot) (lock : Lock) (n : ℕ) (t' : Tables) : Type 0 where
+  pub nobody_blocks : blocker (asker_in t o) lock (slots_in t) ≡ None
+  pub counts_struck : n ≡ length (signalled (asker_in t o) lock (slots_in t))
+  pub slots_after : slots_in t' ≡ replace (with_lock (asker_in t o) lock) (map (strike (asker_in t o) lock) (slots_in t))
   pub counts_kept : t'.slots.counts ≡ t.slots.counts
-  pub still_open : OpenAt t' i x
-  pub asker_after : transaction_in t' i x ≡ with_lock (transaction_in t i x) lock
+  pub still_open : OpenIn t' o
+  pub asker_after : asker_in t' o ≡ with_lock (asker_in t o) lock
 
 abbrev pub Acquires : Tables → OpenSlot → Lock → Result ℕ Denial → Tables → Type 0
-Acquires t o lock (Ok n) t' = Got t o.slot.at o.transaction lock n t'
+Acquires t o lock (Ok n) t' = Got t o lock n t'
 Acquires t o lock (Err (Waits u)) t' = (blocker (asker_in t o) lock (slots_in t) ≡ Some u) × (t'.slots ≡ t.slots) × (t'.locks ≡ t.locks)
 Acquires t o lock (Err (Refused f)) t' = (f ≡ Absent) × (has_row lock ≡ false)
 
@@ -69,15 +61,15 @@ pub record Commits (t : Tables) (n : ℕ) (answer : Option ℕ) (t' : Tables) : 
   pub slots_after : slots_in t' ≡ end n (slots_in t)
   pub counts_after : t'.slots.counts ≡ one_commit_more t.slots.counts
 
--- A change of the transaction x in slot i is noted.
-pub record Noted (t : Tables) (i : ℕ) (x : Transaction) (o : Object) (v : ℕ) (t' : Tables) : Type 0 where
-  pub slots_after : slots_in t' ≡ replace (with_change (held t.locks i) o v x) (slots_in t)
+-- A change of the asker is noted.
+pub record Noted (t : Tables) (o : OpenSlot) (ob : Object) (v : ℕ) (t' : Tables) : Type 0 where
+  pub slots_after : slots_in t' ≡ replace (with_change ob v (asker_in t o)) (slots_in t)
   pub counts_kept : t'.slots.counts ≡ t.slots.counts
 
 -- The call's change, if it has one, is noted.
-abbrev pub NotedCall : Tables → ℕ → Transaction → Call → Tables → Type 0
-NotedCall t i x (Deploys p) t' = t' ≡ t
-NotedCall t i x (Reads c) t' = t' ≡ t
-NotedCall t i x (Writes c v) t' = room (changes_of x.workspace) (OfCell c) ≡ true → Noted t i x (OfCell c) v t'
-NotedCall t i x (Shows p) t' = t' ≡ t
-NotedCall t i x (Sets p v) t' = room (changes_of x.workspace) (OfPolicy p) ≡ true → Noted t i x (OfPolicy p) v t'
+abbrev pub NotedCall : Tables → OpenSlot → Call → Tables → Type 0
+NotedCall t o (Deploys p) t' = t' ≡ t
+NotedCall t o (Reads c) t' = t' ≡ t
+NotedCall t o (Writes c v) t' = room (asker_in t o).changes (OfCell c) ≡ true → Noted t o (OfCell c) v t'
+NotedCall t o (Shows p) t' = t' ≡ t
+NotedCall t o (Sets p v) t' = room (asker_in t o).changes (OfPolicy p) ≡ true → Noted t o (OfPolicy p) v t'

@@ -37,30 +37,20 @@ module _ {M : Type 0} (on : M → Lock) (modes : List M) (say : M → M → Lock
       (λ no. ap (λ ls. is_signal (held_say (holds k) (on asked) ls)) (beside asked)
       ∙ mode_signal on say same_says holds k asked modes (sym (ap (λ ls. is_conflict (held_say (holds k) (on asked) ls)) (beside asked)) ∙ no)))
 
-pub kept : (h s : Bool) → s ≡ false → h ≡ (h && not s)
-kept h s e = grind (arith, nat_tests)
+same_row : (a b h s : Bool) (p : ℕ) → ((a && b) || (h && not s)) ≡ ((a && eqb p p && b) || (h && not (s && eqb p p)))
+same_row a b h s p = let e = eq-eqb p p refl in grind (arith, nat_tests)
 
--- the asker is not struck
-come : (a b h s x y : Bool) → s ≡ ((x && not b) && y) → (((a && b) || (h && not s)) && not s) ≡ ((a && b) || (h && not s))
-come a b h s x y e = grind (arith, nat_tests)
+other_row : (a b h s : Bool) (q p : ℕ) → q ≢ p → h ≡ ((a && eqb q p && b) || (h && not (s && eqb q p)))
+other_row a b h s q p ne = let e = ne_eqb q p ne in grind (arith, nat_tests)
 
-same_row : (a b h : Bool) (p : ℕ) → ((a && b) || h) ≡ ((a && eqb p p && b) || h)
-same_row a b h p = let e = eq-eqb p p refl in grind (arith, nat_tests)
-
-other_row : (a b h : Bool) (q p : ℕ) → q ≢ p → h ≡ ((a && eqb q p && b) || h)
-other_row a b h q p ne = let e = ne_eqb q p ne in grind (arith, nat_tests)
-
--- Of some rows, the lock on one is granted, and the struck lose their locks on all.
+-- Of some rows, the lock on one is granted, and the struck lose their locks there.
 module _ {R M : Type 0} (same : M → M → Bool) (say : M → M → LockAnswer) (modes : List M) (holds : R → M → ℕ → Bool) (none : R) (rows : List R) (at : ℕ) (row : R) (asked : M) (asker : ℕ) (struck : ℕ → Bool) where
   pub rows_after : at < length rows → LockGranted same say modes (holds (get_or rows at none)) asked asker (holds row) struck
-      → (n : M) (i k : ℕ) → (holds (get_or (set rows at row) i none) n k && not (struck k)) ≡ ((same n asked && eqb i at && eqb k asker) || (holds (get_or rows i none) n k && not (struck k)))
+      → (n : M) (i k : ℕ) → holds (get_or (set rows at row) i none) n k ≡ ((same n asked && eqb i at && eqb k asker) || (holds (get_or rows i none) n k && not (struck k && eqb i at)))
   rows_after lt g n i k = on_row (cases_eq i at)
     where
-      on_row : (i ≡ at) ⊎ (i ≢ at) → (holds (get_or (set rows at row) i none) n k && not (struck k)) ≡ ((same n asked && eqb i at && eqb k asker) || (holds (get_or rows i none) n k && not (struck k)))
+      on_row : (i ≡ at) ⊎ (i ≢ at) → holds (get_or (set rows at row) i none) n k ≡ ((same n asked && eqb i at && eqb k asker) || (holds (get_or rows i none) n k && not (struck k && eqb i at)))
       on_row (inl e) =
-          subst (λ x. (holds (get_or (set rows at row) x none) n k && not (struck k)) ≡ ((same n asked && eqb x at && eqb k asker) || (holds (get_or rows x none) n k && not (struck k)))) (sym e)
-          (ap (λ r. holds r n k && not (struck k)) (get_or-set_same rows at row none lt) ∙ ap (λ x. x && not (struck k)) (g.locks_after n k)
-          ∙ come (same n asked) (eqb k asker) (holds (get_or rows at none) n k) (struck k) _ _ (g.signals_struck k)
-          ∙ same_row (same n asked) (eqb k asker) (holds (get_or rows at none) n k && not (struck k)) at)
-      on_row (inr ne) =
-          ap (λ r. holds r n k && not (struck k)) (get_or-set_other rows at i row none ne) ∙ other_row (same n asked) (eqb k asker) (holds (get_or rows i none) n k && not (struck k)) i at ne
+          subst (λ x. holds (get_or (set rows at row) x none) n k ≡ ((same n asked && eqb x at && eqb k asker) || (holds (get_or rows x none) n k && not (struck k && eqb x at)))) (sym e)
+          (ap (λ r. holds r n k) (get_or-set_same rows at row none lt) ∙ g.locks_after n k ∙ same_row (same n asked) (eqb k asker) (holds (get_or rows at none) n k) (struck k) at)
+      on_row (inr ne) = ap (λ r. holds r n k) (get_or-set_other rows at i row none ne) ∙ other_row (same n asked) (eqb k asker) (holds (get_or rows i none) n k) (struck k) i at ne

@@ -3,3 +3,4 @@ pub mod Tables
 pub mod Says
 pub mod Asking
 pub mod OnRow
+pub mod Listing

@@ -1,15 +1,13 @@
 -- The rows of a table, one by one.
-use Rattle.std.proofs.Common.{◌≡◌, ℕ, ◌<◌, ◌≤◌, Bool, false, not, ◌&&◌, ◌≢◌, ◌⊎◌, List, length, get_or, set, replicate, Ok, Err, Result, sym, ap, ap₂, subst, inl, inr, arith}
+use Rattle.std.proofs.Common.{◌≡◌, ℕ, ◌<◌, ◌≤◌, Bool, false, ◌≢◌, ◌⊎◌, List, length, get_or, set, replicate, Ok, Err, Result, sym, ap, subst, inl, inr, arith}
 use mathlib.Core.HLevel.{Σ_prop_path}
 use Rattle.std.proofs.Props.{props}
 use Rattle.std.proofs.lemmas.List.{get_or_past, get_or-replicate, get_or-set_same, get_or-set_other, length-set, length-replicate}
-use Rattle.std.proofs.lemmas.Bool.{cases_lt, cases_eq}
+use Rattle.std.proofs.lemmas.Bool.{cases_lt, cases_eq, both_ways}
 use Rattle.locking.specs.CellLocks.{cell_holds, CellCompatible, no_cell}
 use Rattle.locking.specs.PolicyLocks.{policy_holds, PolicyCompatible, no_policy}
 use Rattle.locking.specs.CellLaws.{no_cell_held, no_cell_fits}
 use Rattle.locking.specs.PolicyLaws.{no_policy_held, no_policy_fits}
-use Rattle.locking.specs.contracts.cell.CellRowLockRow.TheImpl as cell_row
-use Rattle.locking.specs.contracts.policy.PolicyRowLockRow.TheImpl as policy_row
 use Rattle.locking.specs.declared.row.LockRow.{Ghosts}
 use Rattle.locking.specs.declared.slot_set.SlotSet.{SlotSet}
 use Rattle.locking.specs.declared.mode.CellMode.{CellMode}
@@ -18,8 +16,9 @@ use Rattle.locking.specs.declared.cell.CellRow.{CellRow}
 use Rattle.locking.specs.declared.policy.PolicyRow.{PolicyRow}
 use Rattle.serial.specs.Locks.{Lock, OnCell, OnPolicy}
 use Rattle.lock_table.specs.Rows.{Compatible, Compatible-prop, held_by}
+use Rattle.lock_table.specs.Lists.{Listed, Listed-prop}
 use Rattle.lock_table.specs.Asked.{RowAsked}
-use Rattle.lock_table.specs.Released.{Released}
+use Rattle.lock_table.specs.declared.lock_list.LockList.{LockList}
 use Rattle.lock_table.specs.declared.lock_table.LockTable.{LockTable}
 use Rattle.lock_table.specs.declared.not_granted.NotGranted.{NotGranted}
 use Rattle.lock_table.specs.declared.not_granted.NotGranted.TheVariants.{Absent, Blocked}
@@ -44,14 +43,9 @@ module _ (r : CellRow) (s : PolicyRow) where
   alike_held e f k (OnCell m c) = all_alike (λ row. cell_holds row m k ≡ false) 256 c r no_cell (e m k) (no_cell_held m k)
   alike_held e f k (OnPolicy m p) = all_alike (λ row. policy_holds row m k ≡ false) 64 p s no_policy (f m k) (no_policy_held m k)
 
--- some slots have lost their locks
-module _ (cs cs' : List CellRow) (ps ps' : List PolicyRow) (gone : ℕ → Bool) (e : (c : ℕ) → Released cell_row.ghosts gone (get_or cs c no_cell) (get_or cs' c no_cell)) (f : (p : ℕ) → Released policy_row.ghosts gone (get_or ps p no_policy) (get_or ps' p no_policy)) where
-  pub released_fit : Compatible cs ps → Compatible cs' ps'
-  released_fit all = record { of_cell = λ c. (e c (all.of_cell c)).0; of_policy = λ p. (f p (all.of_policy p)).0 }
-
-  pub released_held : Compatible cs ps → (k : ℕ) (lock : Lock) → held_by cs' ps' k lock ≡ (held_by cs ps k lock && not (gone k))
-  released_held all k (OnCell mode c) = (e c (all.of_cell c)).1 mode k
-  released_held all k (OnPolicy mode p) = (f p (all.of_policy p)).1 mode k
+  -- whatever the lists are
+  pub alike_listed : ((m : CellMode) (k : ℕ) → cell_holds r m k ≡ false) → ((m : PolicyMode) (k : ℕ) → policy_holds s m k ≡ false) → (lists : List LockList) → Listed (replicate 256 r) (replicate 64 s) lists
+  alike_listed e f lists = record { of_slot = λ k lock lt held. absurd (both_ways _ (alike_held e f k lock) held) }
 
 -- one row is another
 set_all : {X : Type 0} (P : X → Type 0) (xs : List X) (n : ℕ) (x d : X) → P x → ((i : ℕ) → P (get_or xs i d)) → P d → (i : ℕ) → P (get_or (set xs n x) i d)
@@ -69,9 +63,15 @@ module _ {R M : Type 0} (kind : Ghosts R M) (same : M → M → Bool) (rows rows
   asked_fit fits (Err (Blocked b)) (lt, waits, is) old i = subst (λ xs. kind.compatible (get_or xs i kind.none)) (sym is) (old i)
   asked_fit fits (Err Absent) (absent, is) old i = subst (λ xs. kind.compatible (get_or xs i kind.none)) (sym is) (old i)
 
--- A table is known by its rows.
-pub same_table : (t u : LockTable) → u.cells ≡ t.cells → u.policies ≡ t.policies → u ≡ t
-same_table t u e f = ap table (Σ_prop_path {A = List CellRow × List PolicyRow} {B = λ x. (length x.0 ≡ 256) × (length x.1 ≡ 64) × Compatible x.0 x.1} (λ x. hlevel (props, Compatible-prop)) (ap₂ (λ x y. (x, y)) e f))
+-- A table is known by its rows and lists.
+pub same_table : (t u : LockTable) → u.cells ≡ t.cells → u.policies ≡ t.policies → u.lists ≡ t.lists → u ≡ t
+same_table t u e f g =
+    ap table
+    (Σ_prop_path {A = List CellRow × List PolicyRow × List LockList} {B = λ x. (length x.0 ≡ 256) × (length x.1 ≡ 64) × (length x.2 ≡ 16) × Compatible x.0 x.1 × Listed x.0 x.1 x.2}
+    (λ x. hlevel (props, Compatible-prop, Listed-prop)) (all e f g))
   where
-    table : ((x : List CellRow × List PolicyRow) × ((length x.0 ≡ 256) × (length x.1 ≡ 64) × Compatible x.0 x.1)) → LockTable
-    table x = record { cells = x.0.0; policies = x.0.1; celled = x.1.0; policed = x.1.1; compatible = x.1.2 }
+    all : {cs cs' : List CellRow} {ps ps' : List PolicyRow} {ls ls' : List LockList} → cs' ≡ cs → ps' ≡ ps → ls' ≡ ls → ◌≡◌ {A = List CellRow × List PolicyRow × List LockList} (cs', ps', ls') (cs, ps, ls)
+    all e f g = cc
+
+    table : ((x : List CellRow × List PolicyRow × List LockList) × ((length x.0 ≡ 256) × (length x.1 ≡ 64) × (length x.2 ≡ 16) × Compatible x.0 x.1 × Listed x.0 x.1 x.2)) → LockTable
+    table x = record { cells = x.0.0; policies = x.0.1; lists = x.0.2; celled = x.1.0; policed = x.1.1; slotted = x.1.2; compatible = x.1.3; listed = x.1.4 }

@@ -1,4 +1,5 @@
 pub mod Rows
+pub mod Lists
 pub mod Held
 pub mod Released
 pub mod Asked

@@ -1,5 +1,5 @@
 // Rows of one kind, for the cells or for the policies: asked, read and released one by one.
-ghost use Rattle.std.specs.Prelude.{◌≡◌, ℕ, ◌<◌, false, ◌&&◌, MatchOption, length, slice_index_or};
+ghost use Rattle.std.specs.Prelude.{◌≡◌, ℕ, ◌<◌, false, ◌&&◌, ◌==◌, MatchOption, length, slice_index_or};
 ghost use Rattle.locking.specs.Slots.{has};
 ghost use Rattle.lock_table.specs.Asked.{RowAsked};
 ghost use Rattle.lock_table.specs.Released.{Released};
@@ -17,13 +17,12 @@ fn locks_at<R: LockRow>(rows: &[R], at: u16) -> Option<Locks<R>>
     Locks::from_row(*row)
 }
 
-// Where there is no such row, or it is not compatible, nobody holds a lock.
+// Where there is no such row, nobody holds a lock. No lock record is made: who holds what is plain in any row.
 pub fn holds_at<R: LockRow>(rows: &[R], at: u16, mode: R::Mode, slot: SlotIndex) -> bool
-    ensures { R.compatible (slice_index_or rows.now at R.none) → result ≡ R.holds (slice_index_or rows.now at R.none) mode slot.at }
+    ensures { result ≡ R.holds (slice_index_or rows.now at R.none) mode slot.at }
 {
-    // A match, since a closure given to `is_some_and` gets no proof that `holds` may be called there.
-    match locks_at(rows, at) {
-        Some(locks) => locks.holds(mode, slot),
+    match rows.get(at as usize) {
+        Some(row) => row.holders(mode).contains(slot),
         None => false,
     }
 }
@@ -45,20 +44,21 @@ pub fn ask_at<R: LockRow>(
     Ok(struck)
 }
 
-fn release_row<R: LockRow>(row: R, gone: SlotSet) -> R
-    ensures { Released R.LockRow (has gone.mask) row result }
+// The slots of the set lose their locks on that row, if there is one.
+pub fn release_at<R: LockRow>(rows: &mut [R], at: u16, gone: SlotSet)
+    ensures { (i : ℕ) → Released R.LockRow (λ k. has gone.mask k && i == at) (slice_index_or rows.old i R.none) (slice_index_or rows.new i R.none) }
 {
-    match Locks::from_row(row) {
-        Some(locks) => locks.release_all(gone).to_row(),
-        None => row,
+    let at = at as usize;
+    if at < rows.len() {
+        rows[at] = rows[at].without(gone);
     }
 }
 
-// The slots of the set lose their locks.
+// The slots of the set lose their locks on every row.
 pub fn release_rows<R: LockRow>(rows: &mut [R], gone: SlotSet)
     ensures { (i : ℕ) → Released R.LockRow (has gone.mask) (slice_index_or rows.old i R.none) (slice_index_or rows.new i R.none) }
 {
     for row in rows.iter_mut() {
-        *row = release_row(*row, gone);
+        *row = row.without(gone);
     }
 }

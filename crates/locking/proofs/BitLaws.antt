@@ -1,14 +1,15 @@
 -- The slots that a mask has, after what `|`, `&`, `!` and `1 << i` do to it.
-use Rattle.std.proofs.Common.{◌≡◌, ℕ, zero, suc, ◌+◌, ◌-◌, ◌*◌, ◌/◌, ◌%◌, ◌^◌, ◌<◌, ◌≤◌, Bool, false, cond, not, ◌&&◌, ◌||◌, eqb, Decides, sym, refl, ap, ◌∙◌, ap₂, ⊎_elim, mul_assoc, pow-suc, one-add, arith, w16}
+use Rattle.std.proofs.Common.{◌≡◌, ℕ, zero, suc, ◌+◌, ◌-◌, ◌*◌, ◌/◌, ◌%◌, ◌^◌, ◌<◌, ◌≤◌, Bool, false, cond, not, ◌&&◌, ◌||◌, eqb, Decides, ◌⊎◌, inl, inr, sym, refl, ap, ◌∙◌, ap₂, ⊎_elim, mul_assoc, pow-suc, one-add, arith, w16}
 use lib.Bits.{bit_and, bit_or}
 use lib.Count.{ones, ones_step, ones_cat, ones-ones}
 use Rattle.std.proofs.lemmas.Nat.{pow_pos, one_shl, shr_split, shr_below, field_of, mod_below}
-use Rattle.std.proofs.lemmas.Nat.Bits.{bit_at-lt, bit_at_or, bit_at_and, bit_at_not, bit_at-pow_same, bit_at-pow_other, bit_at_above, bit_at-zero, same_from_bits_below}
-use Rattle.std.proofs.lemmas.Bool.{cases_lt, cases_eq, eqb-true, eq-eqb}
+use Rattle.std.proofs.lemmas.Nat.Bits.{bit_at-lt, bit_at_or, bit_at_and, bit_at_not, bit_at-pow_same, bit_at-pow_other, bit_at_above, bit_at-zero, bit_at-trailing_zeros, same_from_bits_below}
+use Rattle.std.proofs.lemmas.Bool.{cases_lt, cases_eq, eqb-true, eq-eqb, ne_eqb}
 use Rattle.std.proofs.lemmas.Bool.Decides.{nat_tests}
-use Rattle.std.specs.Int.{bit_at}
+use Rattle.std.specs.Int.{bit_at, trailing_zeros}
+use Rattle.std.specs.Int.Count.{trailing_of_zero}
 use Rattle.locking.specs.NoLocks.{has_zero}
-use Rattle.locking.specs.Slots.{has, count_below}
+use Rattle.locking.specs.Slots.{has, count_below, IsLowest}
 
 pub has_past : (w n k : ℕ) → n < 2 ^ w → w ≤ k → has n k ≡ false
 unfolding has
@@ -54,6 +55,24 @@ none_set w a h clear =
 -- a set is empty exactly if its mask is 0
 pub decides_zero : (w a : ℕ) → a < 2 ^ w → Decides (eqb a 0) ((k : ℕ) → has a k ≡ false)
 decides_zero w a h = (λ e k. ap (λ n. has n k) (eqb-true a 0 e) ∙ has_zero k, λ clear. eq-eqb a 0 (none_set w a h clear))
+
+-- `trailing_zeros` names the lowest slot of a set, if there is one
+zero_or_lowest : (n : ℕ) → n < 2 ^ 16 → (n ≡ 0) ⊎ ((trailing_zeros w16 n < 16) × IsLowest (has n) (trailing_zeros w16 n))
+unfolding has
+zero_or_lowest n h =
+    ⊎_elim
+    (λ (pos : 0 < n). let t = bit_at-trailing_zeros w16 n pos h in inr (t.0, (eq-eqb _ 1 t.1, λ k lt. let z = t.2 k lt in ne_eqb _ 1 (omega arith))))
+    (λ (z : n ≤ 0). inl (omega arith))
+    (cases_lt 0 n)
+
+none_trailing : (n : ℕ) → n ≡ 0 → trailing_zeros w16 n ≡ 16
+none_trailing n e = ap (trailing_zeros w16) e ∙ trailing_of_zero 16
+
+pub lowest_in : (n : ℕ) → n < 2 ^ 16 → trailing_zeros w16 n < 16 → IsLowest (has n) (trailing_zeros w16 n)
+lowest_in n h lt = ⊎_elim (λ e. absurd (let t = none_trailing n e in omega arith)) (λ t. t.1) (zero_or_lowest n h)
+
+pub no_lowest : (n : ℕ) → n < 2 ^ 16 → 16 ≤ trailing_zeros w16 n → (k : ℕ) → has n k ≡ false
+no_lowest n h le k = ⊎_elim (λ e. ap (λ m. has m k) e ∙ has_zero k) (λ t. absurd (let lt = t.0 in omega arith)) (zero_or_lowest n h)
 
 -- a remainder by a power of two keeps the lowest bit
 mod_mod_two : (n d : ℕ) → n % 2 ^ suc d % 2 ≡ n % 2

@@ -1,5 +1,5 @@
 -- Sets of slots, as masks. There are 16 slots, 0 to 15; where a slot is named that holds a lock, 16 stands for none.
-use Rattle.std.specs.Prelude.{ℕ, zero, suc, ◌+◌, ◌/◌, ◌%◌, ◌^◌, Bool, true, false, cond, ◌&&◌, ◌==◌, nat_lt}
+use Rattle.std.specs.Prelude.{◌≡◌, ℕ, ◌<◌, zero, suc, ◌+◌, ◌/◌, ◌%◌, ◌^◌, Bool, true, false, cond, ◌&&◌, ◌==◌, nat_lt}
 
 -- whether slot k is in the mask
 unfoldable pub has : ℕ → ℕ → Bool
@@ -12,6 +12,10 @@ with_bit p i k = cond (k == i) true (p k)
 -- the same slots, with slot i out
 abbrev pub without_bit : (ℕ → Bool) → ℕ → ℕ → Bool
 without_bit p i k = cond (k == i) false (p k)
+
+-- Slot i is in, and none below it.
+abbrev pub IsLowest : (ℕ → Bool) → ℕ → Type 0
+IsLowest p i = (p i ≡ true) × ((k : ℕ) → k < i → p k ≡ false)
 
 -- how many slots below n are in
 abbrev pub count_below : (ℕ → Bool) → ℕ → ℕ

@@ -1,6 +1,6 @@
 // Sets of slots, each a mask with a bit for every slot.
-ghost use Rattle.std.specs.Prelude.{◌≡◌, ℕ, false, not, ◌&&◌, ◌||◌, ◌==◌, Decides};
-ghost use Rattle.locking.specs.Slots.{has, with_bit, without_bit, count_below};
+ghost use Rattle.std.specs.Prelude.{◌≡◌, ℕ, false, not, ◌&&◌, ◌||◌, ◌==◌, Decides, MatchOption};
+ghost use Rattle.locking.specs.Slots.{has, with_bit, without_bit, count_below, IsLowest};
 
 use crate::slot::SlotIndex;
 
@@ -80,6 +80,17 @@ impl SlotSet {
         ensures { Decides result ((k : ℕ) → has self.mask k ≡ false) }
     {
         self.mask == 0
+    }
+
+    // The lowest slot leaves the set, if there is one.
+    pub fn pop_lowest(&mut self) -> Option<SlotIndex>
+        ensures { MatchOption result
+            (((k : ℕ) → has self.old.mask k ≡ false) × (self.new ≡ self.old))
+            (λ slot. IsLowest (has self.old.mask) slot.at × ((k : ℕ) → has self.new.mask k ≡ without_bit (has self.old.mask) slot.at k)) }
+    {
+        let slot = SlotIndex::new(self.mask.trailing_zeros() as usize)?;
+        *self = self.without(slot);
+        Some(slot)
     }
 
     pub fn count(self) -> u32

@@ -55,6 +55,9 @@ module _ (us : List Slot) (i : ℕ) (s : Slot) (f : Follows (get_or us i Free) s
   pub turned_count : i < length us → count_by is_open (set us i s) ≤ count_by is_open us
   turned_count l = grind (arith, common_steps, f.opens)
 
+pub free_follows : (s : Slot) → Follows s Free
+free_follows s = record { number = λ t e. cc; opens = λ e. cc }
+
 -- the table after that
 abbrev pub turned : (t : SlotTable) (i : ℕ) (s : Slot) → i < length (used t) → Follows (slot_at t i) s → SlotTable
 turned t i s inside f =

@@ -1,15 +1,17 @@
 -- The model's slots, one by one. Assumes nothing.
-use Rattle.std.proofs.Common.{◌≡◌, ℕ, zero, suc, ◌+◌, ◌<◌, Bool, List, [], ◌∷◌, length, get_or, take, set, sym, refl, ap, ◌∙◌, arith}
+use Rattle.std.proofs.Common.{◌≡◌, ℕ, zero, suc, ◌+◌, ◌<◌, Bool, false, List, [], ◌∷◌, length, get_or, take, set, sym, refl, ap, ◌∙◌, arith}
 use lib.Seq.{take-set-lt}
 use mathlib.Core.Path.{fun_ext}
 use Rattle.std.proofs.lemmas.List.{ext_get_or, length-take}
 use Rattle.serial.specs.Locks.{Lock}
 use Rattle.serial.specs.Model.{free, named, Slot as ModelSlot}
 use Rattle.slot_table.specs.declared.slot.Slot.{Slot}
-use Rattle.slot_table.specs.declared.slot.Slot.TheVariants.{Free}
+use Rattle.slot_table.specs.declared.slot.Slot.TheVariants.{Free, Open, Aborted}
+use Rattle.slot_table.specs.declared.slot.OpenSlot.{OpenSlot}
 use Rattle.slot_table.specs.declared.slot_table.SlotTable.{SlotTable}
 use Rattle.slot_table.specs.Tables.{used}
-use Rattle.slot_table.specs.Slots.{slot_of, slots_from, slot_named}
+use Rattle.slot_table.specs.Slots.{transaction_of, slot_of, slots_from, slot_named, is_open, changes_in}
+use Rattle.slot_table.specs.Finds.{Stands, standing}
 
 pub length_slots_from : (h : ℕ → Lock → Bool) (k : ℕ) (ss : List Slot) → length (slots_from h k ss) ≡ length ss
 unfolding slots_from
@@ -50,3 +52,13 @@ named_of f s t = grind arith
 -- what is written into the array at a place within the slots in use
 pub used_set : (t : SlotTable) (i : ℕ) (s : Slot) → i < length (used t) → take t.limit (set t.slots i s) ≡ set (used t) i s
 used_set t i s l = take-set-lt t.limit t.slots i s (omega (arith, length-take t.limit t.slots))
+
+-- A slot that is not open has no changes.
+pub no_changes : (s : Slot) → is_open s ≡ false → changes_in s ≡ []
+no_changes Free off = refl
+no_changes (Open x) off = cc
+no_changes (Aborted i b p) off = refl
+
+-- What a found transaction means is what the transaction in its slot means.
+pub standing_is : (h : ℕ → Lock → Bool) (ss : List Slot) (o : OpenSlot) (is : Stands ss o) → standing h ss o ≡ transaction_of (h o.slot.at) is.transaction
+standing_is h ss o is = rw (is.there, ← is.number, ← is.subject) refl

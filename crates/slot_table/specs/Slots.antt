@@ -1,5 +1,6 @@
 -- What a slot means, and a list of slots, given who holds which lock: h k l says whether slot k holds the lock l.
 use Rattle.std.specs.Prelude.{◌≡◌, ℕ, suc, ◌≤◌, Bool, true, false, cond, List, [], ◌∷◌, ◌==◌, slice_index_or}
+use Rattle.serial.specs.Words.{Change}
 use Rattle.serial.specs.Locks.{Lock}
 use Rattle.serial.specs.Model.{free, open_slot, aborted_slot, Transaction as ModelTransaction, Slot as ModelSlot}
 use Rattle.workspace.specs.Workspaces.{changes_of}
@@ -29,6 +30,12 @@ abbrev pub is_free : Slot → Bool
 is_free Free = true
 is_free (Open x) = false
 is_free (Aborted i b p) = false
+
+-- The changes of an open transaction; none in a slot that is not open
+abbrev pub changes_in : Slot → List Change
+changes_in Free = []
+changes_in (Open x) = changes_of x.workspace
+changes_in (Aborted i b p) = []
 
 -- No lock is held in a slot that is not open.
 abbrev pub Idle : List Slot → (ℕ → Lock → Bool) → Type 0

@@ -1,10 +1,12 @@
 // A slot for a transaction.
-ghost use Rattle.std.specs.Prelude.{◌≡◌, true};
-ghost use Rattle.slot_table.specs.Slots.{is_free, slot_named, abort_if};
+ghost use Rattle.std.specs.Prelude.{◌≡◌, true, false, MatchOption};
+ghost use Rattle.slot_table.specs.Slots.{is_free, is_open, slot_named, abort_if};
+ghost use Rattle.slot_table.specs.declared.slot.Slot.TheVariants.{Open};
+ghost use Rattle.slot_table.specs.Edits.{Puts};
 ghost use Rattle.slot_table.specs.Lowest.{number_if_open};
 
 use locking::SlotIndex;
-use protocol::TransactionId;
+use protocol::{Object, TransactionId};
 use workspace::Workspace;
 
 #[derive(Clone, Copy)]
@@ -14,11 +16,12 @@ pub struct Transaction {
     pub workspace: Workspace,
 }
 
-// An open transaction, and the slot that it stands in.
+// An open transaction: the slot that it stands in, its number and its subject. Its workspace stays in the table.
 #[derive(Clone, Copy)]
 pub struct OpenSlot {
     pub slot: SlotIndex,
-    pub transaction: Transaction,
+    pub id: TransactionId,
+    pub subject: u16,
 }
 
 #[derive(Clone, Copy)]
@@ -58,6 +61,24 @@ impl Slot {
         if let Slot::Open(transaction) = *self {
             let id = transaction.id;
             *self = Slot::Aborted { id, by, policy };
+        }
+    }
+
+    // A change of an open transaction. Where its workspace has no room, that stays as it is.
+    pub(crate) fn put(&mut self, object: Object, value: u32)
+        ensures { Puts object value self.old self.new }
+    {
+        if let Slot::Open(open) = self {
+            let _ = open.workspace.put(object, value);
+        }
+    }
+
+    pub(crate) fn transaction(&self) -> Option<&Transaction>
+        ensures { MatchOption result (is_open self.now ≡ false) (λ x. self.now ≡ Open x.now) }
+    {
+        match self {
+            Slot::Open(open) => Some(open),
+            Slot::Free | Slot::Aborted { .. } => None,
         }
     }
 

@@ -5,7 +5,7 @@ use protocol::Change;
 
 mod calls;
 
-// An array and a count, and no vector of the kit: those are not Copy, and the table of slots hands its transactions out.
+// An array and a count, and no vector of the kit: those are not Copy, and the table's array is made of copies of a free slot.
 #[derive(Clone, Copy)]
 pub struct Workspace {
     changes: [Change; 16],

@@ -30,29 +30,26 @@ fn answered(called: Result<u32, Denial>) -> Answer
 
 impl<C: Store, R: Store, O: RightsOrder> Engine<'_, '_, '_, C, R, O> {
     // A call of an open transaction: what it is granted, or why it is not.
-    fn call_in(&mut self, asker: &OpenSlot, call: Call) -> Result<u32, Denial>
-        requires { OpenIn self.old.tables asker.now }
-        ensures { Goes C.Store R.Store O.RightsOrder self.old (answer_of result, self.new) (call_in (setup_of O.RightsOrder self.old) (state_of C.Store R.Store self.old) call (open_slot (asker_in self.old.tables asker.now))) }
+    fn call_in(&mut self, asker: OpenSlot, call: Call) -> Result<u32, Denial>
+        requires { OpenIn self.old.tables asker }
+        ensures { Goes C.Store R.Store O.RightsOrder self.old (answer_of result, self.new) (call_in (setup_of O.RightsOrder self.old) (state_of C.Store R.Store self.old) call (open_slot (asker_in self.old.tables asker))) }
     {
         self.judge(asker, call)?;
         let lock = self.lock_for(call);
         let struck = self.tables.acquire(asker, lock)?;
         let number = self.answer_to(asker, call, struck);
-        self.tables.note(asker.slot, call);
+        self.tables.note(asker, call);
         Ok(number)
     }
 
     // All its changes go into the stores, and its locks are gone.
-    fn commit_in(&mut self, asker: &OpenSlot) -> Answer
-        requires { OpenIn self.old.tables asker.now }
-        ensures { Goes C.Store R.Store O.RightsOrder self.old (result, self.new) (commit_in (state_of C.Store R.Store self.old) asker.now.transaction.id (open_slot (asker_in self.old.tables asker.now))) }
+    fn commit_in(&mut self, asker: OpenSlot) -> Answer
+        requires { OpenIn self.old.tables asker }
+        ensures { Goes C.Store R.Store O.RightsOrder self.old (result, self.new) (commit_in (state_of C.Store R.Store self.old) asker.id (open_slot (asker_in self.old.tables asker))) }
     {
-        store_all(
-            self.cells,
-            self.rights,
-            self.size,
-            &asker.transaction.workspace,
-        );
+        // The one copy of a workspace: the stores are written while nothing of the tables is lent.
+        let work = self.tables.workspace(asker.slot);
+        store_all(self.cells, self.rights, self.size, &work);
         match self.tables.commit(asker) {
             Some(place) => Answer::Granted(place),
             None => unreachable(),
@@ -73,8 +70,8 @@ impl<C: Store, R: Store, O: RightsOrder> Engine<'_, '_, '_, C, R, O> {
     {
         match (self.tables.find(transaction), action) {
             (Found::Nobody, _) => Answer::Refused(Refusal::NoSuchTransaction),
-            (Found::Open(asker), Action::Calls(call)) => answered(self.call_in(&asker, call)),
-            (Found::Open(asker), Action::Commits) => self.commit_in(&asker),
+            (Found::Open(asker), Action::Calls(call)) => answered(self.call_in(asker, call)),
+            (Found::Open(asker), Action::Commits) => self.commit_in(asker),
             (Found::Open(asker), Action::GivesUp) => self.end(asker.slot, Answer::Granted(0)),
             (Found::Aborted { by, policy, .. }, Action::Calls(_)) => Answer::Aborted { by, policy },
             // Two arms with one body: of an arm with both patterns a proof learns neither.

@@ -21,26 +21,26 @@ fn require(fact: bool, refusal: Refusal) -> Result<(), Refusal>
 
 impl<C: Store, R: Store, O: RightsOrder> Engine<'_, '_, '_, C, R, O> {
     #[tactic(auto, unfolding(serial::specs::Model::judge))]
-    fn judge_deploy(&self, asker: &OpenSlot, policy: u16) -> Result<(), Refusal>
-        ensures { refusal_in result ≡ judge (setup_of O.RightsOrder self.now) (store_of C.Store R.Store self.now) (asker_in self.now.tables asker.now) (Deploys policy) }
+    fn judge_deploy(&self, asker: OpenSlot, policy: u16) -> Result<(), Refusal>
+        ensures { refusal_in result ≡ judge (setup_of O.RightsOrder self.now) (store_of C.Store R.Store self.now) (asker_in self.now.tables asker) (Deploys policy) }
     {
         let at = policy as usize;
         if at >= self.policies.len() {
             return Err(Refusal::Absent);
         }
         require(
-            self.policies[at].subject == asker.transaction.subject,
+            self.policies[at].subject == asker.subject,
             Refusal::OtherSubject,
         )
     }
 
     // A read or a show
-    fn judge_view(&self, asker: &OpenSlot, object: Object) -> Result<(), Refusal>
-        ensures { refusal_in result ≡ judge_view (setup_of O.RightsOrder self.now) (store_of C.Store R.Store self.now) (asker_in self.now.tables asker.now) object }
+    fn judge_view(&self, asker: OpenSlot, object: Object) -> Result<(), Refusal>
+        ensures { refusal_in result ≡ judge_view (setup_of O.RightsOrder self.now) (store_of C.Store R.Store self.now) (asker_in self.now.tables asker) object }
     {
         require(self.has(object), Refusal::Absent)?;
         require(
-            self.permitted(asker.slot, object, Operation::Read),
+            self.permitted(asker, object, Operation::Read),
             Refusal::NotPermitted,
         )
     }
@@ -48,24 +48,24 @@ impl<C: Store, R: Store, O: RightsOrder> Engine<'_, '_, '_, C, R, O> {
     // Whether the operation on the object is permitted, and there is room for one change more
     fn judge_change(
         &self,
-        asker: &OpenSlot,
+        asker: OpenSlot,
         object: Object,
         operation: Operation,
     ) -> Result<(), Refusal>
-        ensures { refusal_in result ≡ judge_change (setup_of O.RightsOrder self.now) (store_of C.Store R.Store self.now) (asker_in self.now.tables asker.now) object operation }
+        ensures { refusal_in result ≡ judge_change (setup_of O.RightsOrder self.now) (store_of C.Store R.Store self.now) (asker_in self.now.tables asker) object operation }
     {
         require(
-            self.permitted(asker.slot, object, operation),
+            self.permitted(asker, object, operation),
             Refusal::NotPermitted,
         )?;
         require(
-            asker.transaction.workspace.has_room(object),
+            self.tables.has_room(asker.slot, object),
             Refusal::TooManyChanges,
         )
     }
 
-    fn judge_write(&self, asker: &OpenSlot, object: Object) -> Result<(), Refusal>
-        ensures { refusal_in result ≡ judge_write (setup_of O.RightsOrder self.now) (store_of C.Store R.Store self.now) (asker_in self.now.tables asker.now) object }
+    fn judge_write(&self, asker: OpenSlot, object: Object) -> Result<(), Refusal>
+        ensures { refusal_in result ≡ judge_write (setup_of O.RightsOrder self.now) (store_of C.Store R.Store self.now) (asker_in self.now.tables asker) object }
     {
         require(self.has(object), Refusal::Absent)?;
         self.judge_change(asker, object, Operation::Write)
@@ -73,8 +73,8 @@ impl<C: Store, R: Store, O: RightsOrder> Engine<'_, '_, '_, C, R, O> {
 
     // By the right in force, whatever the transaction has set before
     #[tactic(auto, unfolding(serial::specs::Model::judge))]
-    fn judge_set(&self, asker: &OpenSlot, policy: u16, right: u32) -> Result<(), Refusal>
-        ensures { refusal_in result ≡ judge (setup_of O.RightsOrder self.now) (store_of C.Store R.Store self.now) (asker_in self.now.tables asker.now) (Sets policy right) }
+    fn judge_set(&self, asker: OpenSlot, policy: u16, right: u32) -> Result<(), Refusal>
+        ensures { refusal_in result ≡ judge (setup_of O.RightsOrder self.now) (store_of C.Store R.Store self.now) (asker_in self.now.tables asker) (Sets policy right) }
     {
         let object = Object::OfPolicy(policy);
         require(self.has(object), Refusal::Absent)?;
@@ -87,8 +87,8 @@ impl<C: Store, R: Store, O: RightsOrder> Engine<'_, '_, '_, C, R, O> {
     }
 
     #[tactic(auto, unfolding(serial::specs::Model::judge))]
-    pub(super) fn judge(&self, asker: &OpenSlot, call: Call) -> Result<(), Refusal>
-        ensures { refusal_in result ≡ judge (setup_of O.RightsOrder self.now) (store_of C.Store R.Store self.now) (asker_in self.now.tables asker.now) call }
+    pub(super) fn judge(&self, asker: OpenSlot, call: Call) -> Result<(), Refusal>
+        ensures { refusal_in result ≡ judge (setup_of O.RightsOrder self.now) (store_of C.Store R.Store self.now) (asker_in self.now.tables asker) call }
     {
         match call {
             Call::Deploys { policy } => self.judge_deploy(asker, policy),
@@ -117,12 +117,12 @@ impl<C: Store, R: Store, O: RightsOrder> Engine<'_, '_, '_, C, R, O> {
 
     // A read or a show with what the transaction sees, a set with how many it struck.
     #[tactic(auto, unfolding(serial::specs::Model::call_answer))]
-    pub(super) fn answer_to(&self, asker: &OpenSlot, call: Call, struck: u32) -> u32
-        ensures { result ≡ call_answer (store_of C.Store R.Store self.now) (asker_in self.now.tables asker.now) call struck }
+    pub(super) fn answer_to(&self, asker: OpenSlot, call: Call, struck: u32) -> u32
+        ensures { result ≡ call_answer (store_of C.Store R.Store self.now) (asker_in self.now.tables asker) call struck }
     {
         match call {
-            Call::Reads { cell } => self.seen(&asker.transaction, Object::OfCell(cell)),
-            Call::Shows { policy } => self.seen(&asker.transaction, Object::OfPolicy(policy)),
+            Call::Reads { cell } => self.seen(asker.slot, Object::OfCell(cell)),
+            Call::Shows { policy } => self.seen(asker.slot, Object::OfPolicy(policy)),
             Call::Sets { .. } => struck,
             Call::Deploys { .. } | Call::Writes { .. } => 0,
         }

@@ -1,21 +1,20 @@
 // What the engine sees: what is stored, what a transaction sees of it, and what its policies permit.
 ghost use Rattle.std.specs.Prelude.{◌≡◌, ℕ, ◌<◌, ◌&&◌, length, slice_index, slice_index_or};
 ghost use Rattle.protocol.specs.declared.policy.Policy.{Policy};
-ghost use Rattle.workspace.specs.Workspaces.{changes_of};
 ghost use Rattle.serial.specs.Words.{same_object, change_kind};
 ghost use Rattle.serial.specs.Changes.{stored, seen};
 ghost use Rattle.serial.specs.Model.{permitted};
 ghost use Rattle.lock_table.specs.Held.{held};
-ghost use Rattle.slot_table.specs.declared.slot.Transaction.{Transaction};
-ghost use Rattle.engine.specs.Tables.{transaction_in};
+ghost use Rattle.slot_table.specs.Tables.{changes_at};
+ghost use Rattle.engine.specs.Tables.{asker_in};
 ghost use Rattle.engine.specs.Engines.{store_of, setup_of, is_there};
-ghost use Rattle.engine.specs.Permits.{permits_at};
+ghost use Rattle.engine.specs.Permits.{permits_at, permits_by};
 
 use super::Engine;
-use locking::SlotIndex;
+use locking::{Lock, SlotIndex};
 use protocol::{Object, Policy};
 use rights::{ChangeKind, Operation, RightsOrder, change_of};
-use slot_table::Transaction;
+use slot_table::OpenSlot;
 use stores::Store;
 
 // The number at a position; 0 where there is none, as in the lists of the machine.
@@ -52,10 +51,10 @@ impl<C: Store, R: Store, O: RightsOrder> Engine<'_, '_, '_, C, R, O> {
 
     // The transaction's own change, or else what is stored.
     #[tactic(auto, unfolding(serial::specs::Changes::seen))]
-    pub(super) fn seen(&self, transaction: &Transaction, object: Object) -> u32
-        ensures { result ≡ seen (store_of C.Store R.Store self.now) (changes_of transaction.now.workspace) object }
+    pub(super) fn seen(&self, slot: SlotIndex, object: Object) -> u32
+        ensures { result ≡ seen (store_of C.Store R.Store self.now) (changes_at self.now.tables.slots slot.at) object }
     {
-        match transaction.workspace.value_of(object) {
+        match self.tables.value_of(slot, object) {
             Some(value) => value,
             None => self.stored(object),
         }
@@ -68,7 +67,8 @@ impl<C: Store, R: Store, O: RightsOrder> Engine<'_, '_, '_, C, R, O> {
         change_of(self.order, self.stored(Object::OfPolicy(policy)), right)
     }
 
-    // Whether the policy, which is number `at`, is deployed, has the object, and permits the operation by its right in force.
+    // Whether the policy, which is number `at`, is deployed, has the object, and permits the operation by its right in force. The object is
+    // compared first, since few policies have it, and to ask for a lock costs more.
     fn policy_permits(
         &self,
         slot: SlotIndex,
@@ -79,18 +79,43 @@ impl<C: Store, R: Store, O: RightsOrder> Engine<'_, '_, '_, C, R, O> {
     ) -> bool
         ensures { result ≡ permits_at (setup_of O.RightsOrder self.now) (store_of C.Store R.Store self.now) (held self.now.tables.locks slot.at) object operation at policy.now }
     {
-        self.tables.deploys(slot, at)
-            && policy.object == object
+        policy.object == object
+            && self.tables.deploys(slot, at)
             && self
                 .order
                 .permits(number_at(self.rights, at as usize), operation)
     }
 
-    pub(super) fn permitted(&self, slot: SlotIndex, object: Object, operation: Operation) -> bool
-        ensures { (x : Transaction) → result ≡ permitted (setup_of O.RightsOrder self.now) (store_of C.Store R.Store self.now) (transaction_in self.now.tables slot.at x) object operation }
+    // The same of the policy that the lock is on. A lock on a cell permits nothing.
+    fn lock_permits(
+        &self,
+        slot: SlotIndex,
+        object: Object,
+        operation: Operation,
+        lock: Lock,
+    ) -> bool
+        ensures { result ≡ permits_by (setup_of O.RightsOrder self.now) (store_of C.Store R.Store self.now) (held self.now.tables.locks slot.at) object operation lock }
     {
-        self.policies.iter().enumerate().any(|(at, policy)| self.policy_permits(
-            slot, object, operation, at as u16, policy,
-        ))
+        match lock {
+            Lock::OnCell(..) => false,
+            Lock::OnPolicy(_, at) => match self.policies.get(at as usize) {
+                Some(policy) => self.policy_permits(slot, object, operation, at, policy),
+                None => false,
+            },
+        }
+    }
+
+    // A policy that is deployed has a lock on it: so the policies of the slot's listed locks suffice, where it has a list.
+    pub(super) fn permitted(&self, asker: OpenSlot, object: Object, operation: Operation) -> bool
+        ensures { result ≡ permitted (setup_of O.RightsOrder self.now) (store_of C.Store R.Store self.now) (asker_in self.now.tables asker) object operation }
+    {
+        match self.tables.listed(asker.slot) {
+            Some(locks) => locks.iter().any(|lock| self.lock_permits(
+                asker.slot, object, operation, *lock,
+            )),
+            None => self.policies.iter().enumerate().any(|(at, policy)| self.policy_permits(
+                asker.slot, object, operation, at as u16, policy,
+            )),
+        }
     }
 }

@@ -1,17 +1,17 @@
 // The calls of the tables, promised in the words of the machine. They check nothing that the engine has checked.
-ghost use Rattle.std.specs.Prelude.{◌≡◌, ℕ, suc, true, nat_lt};
+ghost use Rattle.std.specs.Prelude.{◌≡◌, ℕ, suc, true, nat_lt, IfSome};
 ghost use Rattle.locking.specs.declared.mode.PolicyMode.TheVariants.{Deploy};
 ghost use Rattle.workspace.specs.Workspaces.{changes_of};
 ghost use Rattle.serial.specs.Words.{Store};
 ghost use Rattle.serial.specs.Locks.{OnPolicy};
-ghost use Rattle.serial.specs.Changes.{room};
+ghost use Rattle.serial.specs.Changes.{latest, room};
 ghost use Rattle.serial.specs.Model.{open_in, any_free, end};
 ghost use Rattle.serial.specs.OneDay.{morning};
 ghost use Rattle.lock_table.specs.Held.{held};
-ghost use Rattle.slot_table.specs.Tables.{used};
+ghost use Rattle.lock_table.specs.Lists.{Covers};
+ghost use Rattle.slot_table.specs.Tables.{used, changes_at};
 ghost use Rattle.slot_table.specs.Finds.{Finds};
-ghost use Rattle.slot_table.specs.declared.slot.Transaction.{Transaction};
-ghost use Rattle.engine.specs.Tables.{closed_state, slots_in, table_state, OpenAt, Commits, OpenIn, NamedAt, Acquires, Noted, NotedCall};
+ghost use Rattle.engine.specs.Tables.{closed_state, slots_in, table_state, Commits, OpenIn, NamedAt, asker_in, Acquires, Noted, NotedCall};
 
 use super::Tables;
 use crate::denial::Denial;
@@ -19,6 +19,7 @@ use lock_table::{LockTable, NotGranted};
 use locking::{Lock, PolicyMode, SlotIndex, SlotSet};
 use protocol::{Answer, Call, Object, Refusal, TransactionId};
 use slot_table::{Found, OpenSlot, SlotTable};
+use workspace::Workspace;
 
 impl Tables {
     pub(crate) fn new() -> Tables
@@ -63,8 +64,8 @@ impl Tables {
     }
 
     // The same of a transaction that commits; its place in the order of commits.
-    pub(crate) fn commit(&mut self, asker: &OpenSlot) -> Option<u32>
-        ensures { OpenIn self.old asker.now → Commits self.old asker.now.transaction.id result self.new }
+    pub(crate) fn commit(&mut self, asker: OpenSlot) -> Option<u32>
+        ensures { OpenIn self.old asker → Commits self.old asker.id result self.new }
     {
         self.locks.release(SlotSet::only(asker.slot));
         self.slots.commit(asker.slot)
@@ -77,16 +78,42 @@ impl Tables {
             .holds(slot, Lock::OnPolicy(PolicyMode::Deploy, policy))
     }
 
+    // Locks on whose rows all locks of the slot lie, unless they are too many for a list.
+    pub(crate) fn listed(&self, slot: SlotIndex) -> Option<&[Lock]>
+        ensures { IfSome result (λ locks. Covers locks.now (held self.now.locks slot.at)) }
+    {
+        self.locks.listed(slot)
+    }
+
+    // What is in the workspace of a slot
+
+    pub(crate) fn workspace(&self, slot: SlotIndex) -> Workspace
+        ensures { changes_of result ≡ changes_at self.now.slots slot.at }
+    {
+        self.slots.workspace(slot)
+    }
+
+    pub(crate) fn value_of(&self, slot: SlotIndex, object: Object) -> Option<u32>
+        ensures { result ≡ latest (changes_at self.now.slots slot.at) object }
+    {
+        self.slots.value_of(slot, object)
+    }
+
+    pub(crate) fn has_room(&self, slot: SlotIndex, object: Object) -> bool
+        ensures { result ≡ room (changes_at self.now.slots slot.at) object }
+    {
+        self.slots.has_room(slot, object)
+    }
+
     // Asks for a lock, for an open transaction: how many others were struck. That it is open in its slot is asked for here, since
     // it is a fact about the tables too, which no type of the asker could keep.
-    pub(crate) fn acquire(&mut self, asker: &OpenSlot, lock: Lock) -> Result<u32, Denial>
-        requires { OpenIn self.old asker.now }
-        ensures { Acquires self.old asker.now lock result self.new }
+    pub(crate) fn acquire(&mut self, asker: OpenSlot, lock: Lock) -> Result<u32, Denial>
+        requires { OpenIn self.old asker }
+        ensures { Acquires self.old asker lock result self.new }
     {
         match self.locks.ask(asker.slot, lock) {
             Ok(struck) => {
-                self.slots
-                    .abort(struck, asker.transaction.id, lock.number());
+                self.slots.abort(struck, asker.id, lock.number());
                 Ok(struck.count())
             }
             // A match in a match: of a pattern in a pattern a proof does not learn the inner value.
@@ -100,19 +127,19 @@ impl Tables {
         }
     }
 
-    pub(crate) fn put(&mut self, slot: SlotIndex, object: Object, value: u32)
-        ensures { (x : Transaction) → OpenAt self.old slot.at x → room (changes_of x.workspace) object ≡ true → Noted self.old slot.at x object value self.new }
+    pub(crate) fn put(&mut self, asker: OpenSlot, object: Object, value: u32)
+        ensures { OpenIn self.old asker → room (asker_in self.old asker).changes object ≡ true → Noted self.old asker object value self.new }
     {
-        self.slots.put(slot, object, value);
+        self.slots.put(asker.slot, object, value);
     }
 
     // The call's change, if it has one, goes into the transaction's workspace.
-    pub(crate) fn note(&mut self, slot: SlotIndex, call: Call)
-        ensures { (x : Transaction) → OpenAt self.old slot.at x → NotedCall self.old slot.at x call self.new }
+    pub(crate) fn note(&mut self, asker: OpenSlot, call: Call)
+        ensures { OpenIn self.old asker → NotedCall self.old asker call self.new }
     {
         match call {
-            Call::Writes { cell, value } => self.put(slot, Object::OfCell(cell), value),
-            Call::Sets { policy, right } => self.put(slot, Object::OfPolicy(policy), right),
+            Call::Writes { cell, value } => self.put(asker, Object::OfCell(cell), value),
+            Call::Sets { policy, right } => self.put(asker, Object::OfPolicy(policy), right),
             Call::Deploys { .. } | Call::Reads { .. } | Call::Shows { .. } => {}
         }
     }

@@ -1,12 +1,15 @@
 // The calls of the table, promised by who holds which lock.
-ghost use Rattle.std.specs.Prelude.{◌≡◌, ℕ, false, not, ◌&&◌};
+ghost use Rattle.std.specs.Prelude.{◌≡◌, ℕ, ◌<◌, false, not, ◌&&◌, ◌==◌, OnErr, MatchOption, slice_index_or};
 ghost use Rattle.locking.specs.Slots.{has};
 ghost use Rattle.serial.specs.Locks.{Lock};
 ghost use Rattle.lock_table.specs.Held.{held, Asked, AskedOnRow};
+ghost use Rattle.lock_table.specs.Lists.{no_list, Covers};
 
 use super::LockTable;
+use crate::every_row::{ask_on_row, release_by};
+use crate::lock_list::LockList;
 use crate::not_granted::NotGranted;
-use crate::rows::{ask_at, holds_at, release_rows};
+use crate::rows::holds_at;
 use locking::{CellLocks, Lock, PolicyLocks, SlotIndex, SlotSet};
 
 impl LockTable {
@@ -18,6 +21,7 @@ impl LockTable {
         LockTable {
             cells: [cell; 256],
             policies: [policy; 64],
+            lists: [LockList::new(); 16],
         }
     }
 
@@ -30,25 +34,47 @@ impl LockTable {
         }
     }
 
+    // Locks on whose rows all locks of the slot lie, so that a search need not ask every row. `None` where the slot was granted too many for its list.
+    pub fn listed(&self, slot: SlotIndex) -> Option<&[Lock]>
+        ensures { MatchOption result (32 < (slice_index_or self.now.lists slot.at no_list).count) (λ locks. Covers locks.now (held self.now slot.at)) }
+    {
+        self.lists[slot.get()].as_slice()
+    }
+
+    // The slot loses all its locks, and its list has none.
+    fn release_slot(&mut self, slot: SlotIndex)
+        ensures { (k : ℕ) (l : Lock) → held self.new k l ≡ (held self.old k l && not (k == slot.at)) }
+    {
+        release_by(
+            &mut self.cells,
+            &mut self.policies,
+            &self.lists[slot.get()],
+            slot,
+        );
+        self.lists[slot.get()].clear();
+    }
+
     // The slots of the set lose all their locks.
     pub fn release(&mut self, gone: SlotSet)
         ensures { (k : ℕ) (l : Lock) → held self.new k l ≡ (held self.old k l && not (has gone.mask k)) }
     {
-        if gone.is_empty() {
-            return;
+        let mut rest = gone;
+        while let Some(slot) = rest.pop_lowest() {
+            self.release_slot(slot);
         }
-        release_rows(&mut self.cells, gone);
-        release_rows(&mut self.policies, gone);
     }
 
-    // Asks for a lock on its row. Those struck for it have lost their locks on that row alone.
+    // Asks for a lock on its row, and lists it if it is new. Those struck for it have lost their locks on that row alone.
     fn ask_row(&mut self, slot: SlotIndex, lock: Lock) -> Result<SlotSet, NotGranted>
-        ensures { AskedOnRow self.old lock slot.at result self.new }
+        ensures asked { AskedOnRow self.old.cells self.old.policies lock slot.at result self.new.cells self.new.policies }
+        ensures stays { OnErr result (self.new ≡ self.old) }
     {
-        match lock {
-            Lock::OnCell(mode, cell) => ask_at(&mut self.cells, cell, mode, slot),
-            Lock::OnPolicy(mode, policy) => ask_at(&mut self.policies, policy, mode, slot),
+        let held = self.holds(slot, lock);
+        let struck = ask_on_row(&mut self.cells, &mut self.policies, slot, lock)?;
+        if !held {
+            self.lists[slot.get()].push(lock);
         }
+        Ok(struck)
     }
 
     // Asks for a lock, and answers who is struck for it. To wait, or to be refused for want of such a row, is to leave all as it is.

@@ -1,13 +1,13 @@
 // What changes the table. For a slot that is not in use nothing changes.
-ghost use Rattle.std.specs.Prelude.{◌≡◌, ℕ, ◌+◌, Bool, true, length, Some, None, if◌then◌else◌, nat_lt, slice_set};
+ghost use Rattle.std.specs.Prelude.{◌≡◌, ℕ, ◌+◌, Bool, true, length, Some, None, if◌then◌else◌, nat_lt, slice_index_or, slice_set};
 ghost use Rattle.locking.specs.Slots.{has};
 ghost use Rattle.serial.specs.Words.{Store};
 ghost use Rattle.serial.specs.Locks.{Lock};
 ghost use Rattle.serial.specs.Model.{open_in, any_free};
-ghost use Rattle.slot_table.specs.Slots.{is_open, Idle, Follows, abort_if};
+ghost use Rattle.slot_table.specs.Slots.{is_open, Idle, abort_if};
 ghost use Rattle.slot_table.specs.Tables.{used, slot_at, slots_of, state_of};
 ghost use Rattle.slot_table.specs.Counts.{one_commit_more};
-ghost use Rattle.slot_table.specs.Edits.{Ends, put_in};
+ghost use Rattle.slot_table.specs.Edits.{Ends, Puts, put_in};
 ghost use Rattle.slot_table.specs.declared.slot.Slot.TheVariants.{Free};
 
 use super::SlotTable;
@@ -17,19 +17,17 @@ use locking::{SlotIndex, SlotSet};
 use protocol::{Answer, Object, Refusal, TransactionId};
 use workspace::Workspace;
 
-impl SlotTable {
-    // The slot keeps its number or gives it up.
-    fn turn(&mut self, slot: SlotIndex, into: Slot)
-        requires { Follows (slot_at self.old slot.at) into }
-        ensures slots { used self.new ≡ slice_set (used self.old) slot.at into }
-        ensures counts { self.new.counts ≡ self.old.counts }
-    {
-        let at = slot.get();
-        if at < self.limit {
-            self.slots[at] = into;
-        }
+// Of the array alone: where a slot is lent out of a field of the table, a proof cannot give the table back.
+fn put_at(slots: &mut [Slot], at: usize, object: Object, value: u32)
+    ensures here { Puts object value (slice_index_or slots.old at Free) (slice_index_or slots.new at Free) }
+    ensures others { slots.new ≡ slice_set slots.old at (slice_index_or slots.new at Free) }
+{
+    if at < slots.len() {
+        slots[at].put(object, value);
     }
+}
 
+impl SlotTable {
     pub fn open(&mut self, subject: u16) -> Answer
         ensures model { (s : Store) (h : ℕ → Lock → Bool) → Idle (used self.old) h → (result, state_of s h self.new) ≡ open_in (state_of s h self.old) subject (nat_lt self.old.counts.opened 50000) (any_free (slots_of h self.old)) }
         ensures idle { (h : ℕ → Lock → Bool) → Idle (used self.old) h → Idle (used self.new) h }
@@ -56,7 +54,10 @@ impl SlotTable {
         ensures counts { self.new.counts ≡ self.old.counts }
         ensures model { Ends (used self.old) slot.at (used self.new) }
     {
-        self.turn(slot, Slot::Free);
+        let at = slot.get();
+        if at < self.limit {
+            self.slots[at] = Slot::Free;
+        }
     }
 
     // Ends an open transaction, and answers how many have committed with it. A slot that is not open stays.
@@ -66,7 +67,7 @@ impl SlotTable {
         ensures counts { self.new.counts ≡ (if is_open (slot_at self.old slot.at) then one_commit_more self.old.counts else self.old.counts) }
         ensures model { is_open (slot_at self.old slot.at) ≡ true → Ends (used self.old) slot.at (used self.new) }
     {
-        let Slot::Open(_) = self.get(slot) else {
+        let Some(_) = self.transaction(slot) else {
             return None;
         };
         self.end(slot);
@@ -80,6 +81,10 @@ impl SlotTable {
         ensures size { length (used self.new) ≡ length (used self.old) }
         ensures counts { self.new.counts ≡ self.old.counts }
     {
+        // Mostly nobody is struck.
+        if struck.is_empty() {
+            return;
+        }
         for (at, slot) in self.slots.iter_mut().enumerate() {
             if is_in(struck, at) {
                 slot.abort(by, policy);
@@ -93,9 +98,9 @@ impl SlotTable {
         ensures kinds { (k : ℕ) → is_open (slot_at self.new k) ≡ is_open (slot_at self.old k) }
         ensures counts { self.new.counts ≡ self.old.counts }
     {
-        if let Slot::Open(mut transaction) = self.get(slot) {
-            let _ = transaction.workspace.put(object, value);
-            self.turn(slot, Slot::Open(transaction));
+        let at = slot.get();
+        if at < self.limit {
+            put_at(&mut self.slots, at, object, value);
         }
     }
 }

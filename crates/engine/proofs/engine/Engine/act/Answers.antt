@@ -1,4 +1,4 @@
-use Rattle.std.proofs.Common.{refl, inl, inr, rules}
+use Rattle.std.proofs.Common.{refl, inl, inr, ◌∙◌, rules}
 use Rattle.std.proofs.lemmas.Bool.{eq-eqb}
 use Rattle.engine.proofs.Acting.{goes_as, nobody_acts, calls, commits, gives_up, stays_aborted, ends_aborted}
 use Rattle.engine.proofs.engine.Engine.act.Goals as goal
@@ -21,7 +21,7 @@ returns-in-Open-Commits g c =
 pub returns-in-Open-GivesUp : goal.returns-in-Open-GivesUp
 returns-in-Open-GivesUp g c =
     let found = rw c.in-Open-GivesUp.is-0 at c.find.ensures in
-    goes_as (c.end.ensures c.args.transaction (rw found.1 (eq-eqb _ _ found.2))) (gives_up _ _ _ _ _ c.in-Open-GivesUp.is-1 found.0)
+    goes_as (c.end.ensures c.args.transaction (rw found.1.there (eq-eqb _ _ (found.1.number ∙ found.2)))) (gives_up _ _ _ _ _ c.in-Open-GivesUp.is-1 found.0)
 
 pub returns-in-Aborted-Calls : goal.returns-in-Aborted-Calls
 returns-in-Aborted-Calls g c =

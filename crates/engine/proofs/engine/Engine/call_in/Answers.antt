@@ -1,4 +1,4 @@
-use Rattle.std.proofs.Common.{◌≤◌, length, refl, ◌∙◌, arith, rules}
+use Rattle.std.proofs.Common.{◌≤◌, length, refl, ap, ◌∙◌, arith, rules}
 use Rattle.std.proofs.lemmas.List.{length-take}
 use Rattle.std.proofs.lemmas.Result.{err_from_is_err_and}
 use Rattle.engine.specs.Tables.{asker_in}
@@ -13,7 +13,7 @@ returns-in_err-judge g c =
     let σ = state_of g.C.Store g.R.Store e in
     let p = err_from_is_err_and c.from_residual.result c.from_residual.ensures.1 in
     record {
-      answered = rw (p.1, p.2) (refused (setup_of g.O.RightsOrder e) σ (asker_in e.tables c.args.asker.now) c.args.call c.in_err-judge.field-0.0 c.in_err-judge.ensures);
+      answered = rw (p.1, p.2) (refused (setup_of g.O.RightsOrder e) σ (asker_in e.tables c.args.asker) c.args.call c.in_err-judge.field-0.0 c.in_err-judge.ensures);
       same_setup = refl;
       keeps_stores = search rules;
     }
@@ -25,7 +25,7 @@ returns-in_err-struck g c =
     let few : length s.cells ≤ 256 = omega (arith, length-take e.size (g.C.Store.list e.cells.now), e.few_cells) in
     let p = err_from_is_err_and c.from_residual-in_err-struck.result c.from_residual-in_err-struck.ensures.1 in
     record {
-      answered = rw (p.1, p.2) (denied (setup_of g.O.RightsOrder e) s e.tables c.acquire.new.self c.args.asker.now c.args.call c.lock_for-lock.result c.in_err-struck.field-0.0
+      answered = rw (p.1, p.2) (denied (setup_of g.O.RightsOrder e) s e.tables c.acquire.new.self c.args.asker c.args.call c.lock_for-lock.result c.in_err-struck.field-0.0
           c.in_ok-judge.ensures c.lock_for-lock.ensures few e.few_policies c.in_err-struck.ensures);
       same_setup = refl;
       keeps_stores = search rules;
@@ -36,7 +36,7 @@ returns g c =
     let e = c.args.self.now in
     let S = setup_of g.O.RightsOrder e in
     let s = store_of g.C.Store g.R.Store e in
-    let o = c.args.asker.now in
+    let o = c.args.asker in
     let asker = asker_in e.tables o in
     let lock = c.lock_for-lock.result in
     let struck = c.in_ok-struck.struck in
@@ -45,8 +45,8 @@ returns g c =
     record {
       answered = granted S (state_of g.C.Store g.R.Store e) asker c.args.call fine lock c.lock_for-lock.ensures c.answer_to-number.result struck _
           got.nobody_blocks got.counts_struck
-          (c.answer_to-number.ensures ∙ answer_same s (asker_in c.acquire.new.self o) asker c.args.call struck refl)
-          (state_granted S s e.tables c.acquire.new.self c.note.new.self o.slot.at o.transaction lock struck got c.args.call fine (c.note.ensures o.transaction got.still_open));
+          (c.answer_to-number.ensures ∙ answer_same s (asker_in c.acquire.new.self o) asker c.args.call struck (ap (λ y. y.changes) got.asker_after))
+          (state_granted S s e.tables c.acquire.new.self c.note.new.self o lock struck got c.args.call fine (c.note.ensures got.still_open));
       same_setup = refl;
       keeps_stores = search rules;
     }

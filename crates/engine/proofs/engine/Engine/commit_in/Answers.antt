@@ -11,13 +11,12 @@ unreachable-requires g c = let e = (c.commit.ensures c.requires).answers_place i
 pub returns : goal.returns
 returns g c =
     let e = c.args.self.now in
-    let x = c.args.asker.now.transaction in
     let s = lists_of g.C.Store g.R.Store e.cells.now e.rights.now in
     let t = lists_of g.C.Store g.R.Store c.store_all.new.cells c.store_all.new.rights in
     let stored = c.store_all.ensures in
-    let sizes = same_sizes e.size (changes_of x.workspace) s t stored.lists stored.other_cells in
+    let sizes = same_sizes e.size (changes_of c.workspace-work.result) s t stored.lists stored.other_cells in
     record {
-      answered = committed (first_cells e.size s) (first_cells e.size t) e.tables c.commit.new.self c.args.asker.now c.in-Some.place stored.lists (rw c.in-Some.is at (c.commit.ensures c.requires));
+      answered = committed (first_cells e.size s) (first_cells e.size t) e.tables c.commit.new.self c.args.asker c.in-Some.place (rw (← c.workspace-work.ensures) stored.lists) (rw c.in-Some.is at (c.commit.ensures c.requires));
       same_setup = refl;
       keeps_stores = record {
         same_cells = refl;

@@ -1,38 +1,29 @@
-use Rattle.std.proofs.Common.{refl, ◌∙◌}
-use denote.Enum.Bare.{sameb}
-use Rattle.locking.specs.CellLaws.{no_cell_fits}
-use Rattle.locking.specs.PolicyLaws.{no_policy_fits}
-use Rattle.locking.specs.contracts.cell.CellRowLockRow.TheImpl as cell_row
-use Rattle.locking.specs.contracts.policy.PolicyRowLockRow.TheImpl as policy_row
-use Rattle.locking.specs.contracts.mode.CellMode as cell
-use Rattle.locking.specs.contracts.mode.PolicyMode as policy
-use Rattle.lock_table.proofs.Tables.{asked_fit}
-use Rattle.lock_table.proofs.OnRow.{cell_asked, policy_asked}
+use Rattle.std.proofs.Common.{Ok, Err, Result, refl, sym, ◌∙◌, arith}
+use Rattle.std.specs.Result.{OnErr}
+use Rattle.std.proofs.lemmas.List.{length-set}
+use Rattle.lock_table.proofs.Tables.{same_table}
+use Rattle.lock_table.proofs.Listing.{rows_stay, still_listed, listed_more}
 use Rattle.lock_table.proofs.lock_table.LockTable.ask_row.Goals as goal
 
-pub invariant_of-self : goal.invariant_of-self
-invariant_of-self c =
+always : {T E P : Type 0} (r : Result T E) → P → OnErr r P
+always (Ok x) p = tt
+always (Err e) p = p
+
+pub returns-in_err-struck-clause-stays : goal.returns-in_err-struck-clause-stays
+returns-in_err-struck-clause-stays c =
     let t = c.args.self.now in
-    let fit = asked_fit cell_row.ghosts (sameb cell.the_type) t.cells c.ask_at.new.rows c.in-OnCell.cell c.in-OnCell.mode c.args.slot.at no_cell_fits c.ask_at.result c.ask_at.ensures in
-    record {
-      celled = c.ask_at.auto.rows ∙ t.celled;
-      policed = t.policed;
-      compatible = record { of_cell = fit t.compatible.of_cell; of_policy = t.compatible.of_policy };
-    }
+    let stay = rows_stay t.cells c.ask_on_row.new.cells t.policies c.ask_on_row.new.policies c.args.lock c.args.slot.at c.in_err-struck.field-0.0 c.in_err-struck.ensures.asked in
+    always c.from_residual.result (same_table t _ stay.0 stay.1 refl)
 
-pub invariant_of-self-in-OnPolicy : goal.invariant_of-self-in-OnPolicy
-invariant_of-self-in-OnPolicy c =
+pub invariant_of-self-then-not-held-clause-slotted : goal.invariant_of-self-then-not-held-clause-slotted
+invariant_of-self-then-not-held-clause-slotted c = length-set c.args.self.now.lists c.get.result c.push.new.self ∙ c.args.self.now.slotted
+
+pub invariant_of-self-then-not-held-clause-listed : goal.invariant_of-self-then-not-held-clause-listed
+invariant_of-self-then-not-held-clause-listed c =
     let t = c.args.self.now in
-    let asked = c.ask_at-in-OnPolicy in
-    let fit = asked_fit policy_row.ghosts (sameb policy.the_type) t.policies asked.new.rows c.in-OnPolicy.policy c.in-OnPolicy.mode c.args.slot.at no_policy_fits asked.result asked.ensures in
-    record {
-      celled = t.celled;
-      policed = asked.auto.rows ∙ t.policed;
-      compatible = record { of_cell = t.compatible.of_cell; of_policy = fit t.compatible.of_policy };
-    }
+    listed_more t.cells c.ask_on_row.new.cells t.policies c.ask_on_row.new.policies t.lists c.args.lock c.args.slot.at _ c.in_ok-struck.ensures.asked.1 t.listed c.get.result c.push.new.self c.get.ensures (omega (arith, t.slotted, c.get.ensures)) c.push.ensures
 
-pub returns-in-OnCell : goal.returns-in-OnCell
-returns-in-OnCell c = rw c.in-OnCell.is (cell_asked c.args.self.now _ c.in-OnCell.mode c.in-OnCell.cell c.args.slot.at c.ask_at.result refl c.ask_at.ensures)
-
-pub returns-in-OnPolicy : goal.returns-in-OnPolicy
-returns-in-OnPolicy c = rw c.in-OnPolicy.is (policy_asked c.args.self.now _ c.in-OnPolicy.mode c.in-OnPolicy.policy c.args.slot.at c.ask_at-in-OnPolicy.result refl c.ask_at-in-OnPolicy.ensures)
+pub invariant_of-self-else-not-held-clause-listed : goal.invariant_of-self-else-not-held-clause-listed
+invariant_of-self-else-not-held-clause-listed c =
+    let t = c.args.self.now in
+    still_listed t.cells c.ask_on_row.new.cells t.policies c.ask_on_row.new.policies t.lists c.args.lock c.args.slot.at _ c.in_ok-struck.ensures.asked.1 t.listed c.args.slot.below (sym c.if-not-held.ensures)

@@ -1,16 +1,23 @@
-use Rattle.std.proofs.Common.{◌∙◌}
-use Rattle.locking.specs.Slots.{has}
-use Rattle.lock_table.proofs.Tables.{released_fit, released_held}
+use Rattle.std.proofs.Common.{◌≡◌, ℕ, Bool, true, not, ◌&&◌, eqb, ⊎_elim, ap, ◌∙◌, arith}
+use Rattle.std.proofs.lemmas.Bool.{cases_eq}
+use Rattle.std.proofs.lemmas.Bool.Decides.{nat_tests}
+use Rattle.locking.specs.Slots.{has, without_bit}
 use Rattle.lock_table.proofs.lock_table.LockTable.release.Goals as goal
 
-pub invariant_of-self : goal.invariant_of-self
-invariant_of-self c =
-    let e = c.args.self.now in
-    record {
-      celled = c.release_rows.auto.rows ∙ e.celled;
-      policed = c.release_rows-2.auto.rows ∙ e.policed;
-      compatible = released_fit _ _ _ _ (has c.args.gone.mask) c.release_rows.ensures c.release_rows-2.ensures e.compatible;
-    }
+-- one slot more has left the set, and lost its locks
+one_more : (gone rest rest' : ℕ → Bool) (held now after : Bool) (i k : ℕ) → gone i ≡ true → ((j : ℕ) → rest' j ≡ without_bit rest i j) → now ≡ (held && not (gone k && not (rest k))) → after ≡ (now && not (eqb k i)) → after ≡ (held && not (gone k && not (rest' k)))
+one_more gone rest rest' held now after i k went out before left =
+    let o = out k in
+    ⊎_elim (λ (e : k ≡ i). let g : gone k ≡ true = ap gone e ∙ went in grind (arith, nat_tests)) (λ ne. grind (arith, nat_tests)) (cases_eq k i)
 
-pub returns : goal.returns
-returns c = released_held _ _ _ _ (has c.args.gone.mask) c.release_rows.ensures c.release_rows-2.ensures c.args.self.now.compatible
+fewer : (rest rest' : ℕ → Bool) (i k : ℕ) → ((j : ℕ) → rest' j ≡ without_bit rest i j) → rest' k ≡ true → rest k ≡ true
+fewer rest rest' i k out e = let o = out k in grind (arith, nat_tests)
+
+pub loop-slot-preserved : goal.loop-slot-preserved
+loop-slot-preserved c =
+    let popped = c.in-Some.ensures in
+    let inv = c.loop-slot.invariant in
+    record {
+      left = λ k lock. one_more (has c.args.gone.mask) (has c.loop-slot.rest.mask) (has c.pop_lowest.new.self.mask) _ _ _ c.in-Some.slot.at k (inv.within c.in-Some.slot.at popped.0.0) popped.1 (inv.left k lock) (c.release_slot.ensures k lock);
+      within = λ k h. inv.within k (fewer (has c.loop-slot.rest.mask) (has c.pop_lowest.new.self.mask) c.in-Some.slot.at k popped.1 h);
+    }

@@ -1,0 +1,24 @@
+use Rattle.std.proofs.Common.{◌≡◌, Bool, not, ◌&&◌, ◌||◌, eqb, ap, ◌∙◌, arith}
+use Rattle.std.proofs.lemmas.Bool.Decides.{nat_tests}
+use Rattle.locking.specs.Slots.{has}
+use Rattle.serial.specs.Locks.{same_lock}
+use Rattle.lock_table.specs.Held.{held}
+use Rattle.lock_table.proofs.lock_table.LockTable.ask.Goals as goal
+
+-- the asker is not struck
+come : (a b h r s x y : Bool) → s ≡ ((x && not b) && y) → (((a && b) || (h && not (s && r))) && not s) ≡ ((a && b) || (h && not s))
+come a b h r s x y e = grind (arith, nat_tests)
+
+pub returns : goal.returns
+returns c =
+    let struck = has c.in_ok-struck.struck.mask in
+    let granted = c.in_ok-struck.ensures.asked.1 in (
+      c.in_ok-struck.ensures.asked.0,
+      record {
+        nobody_conflicts = granted.nobody_conflicts;
+        signals_struck = granted.signals_struck;
+        locks_after = λ k l.
+            c.release.ensures k l ∙ ap (λ x. x && not (struck k)) (granted.locks_after k l)
+            ∙ come (same_lock l c.args.lock) (eqb k c.args.slot.at) (held c.args.self.now k l) _ (struck k) _ _ (granted.signals_struck k);
+      },
+    )

@@ -1,0 +1,14 @@
+use Rattle.std.proofs.Common.{◌≡◌, ℕ, true, not, ◌&&◌}
+use Rattle.locking.specs.Slots.{has, count_below}
+use Rattle.serial.specs.Locks.{Lock}
+use Rattle.lock_table.specs.Held.{held}
+use Rattle.lock_table.proofs.lock_table.LockTable.release.Given as goal
+
+abbrev pub invariant-loop-slot : goal.invariant-loop-slot
+invariant-loop-slot l = record {
+  left : (k : ℕ) (lock : Lock) → held l.self k lock ≡ (held l.initial.self k lock && not (has l.fn.gone.mask k && not (has l.rest.mask k)));
+  within : (k : ℕ) → has l.rest.mask k ≡ true → has l.fn.gone.mask k ≡ true;
+}
+
+abbrev pub decreases-loop-slot : goal.decreases-loop-slot
+decreases-loop-slot l = count_below (has l.rest.mask) 16

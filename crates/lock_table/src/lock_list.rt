@@ -1,0 +1,47 @@
+// The locks that a slot was granted since its last release, so that the next has to look at their rows alone.
+ghost use Rattle.std.specs.Prelude.{◌≡◌, ◌<◌, true, false, ◌||◌, MatchOption};
+ghost use Rattle.std.specs.List.{list_any};
+ghost use Rattle.serial.specs.Locks.{Lock};
+ghost use Rattle.lock_table.specs.Lists.{on_one_row, may_hold};
+
+use locking::{CellMode, Lock};
+
+// A transaction mostly holds few locks. Past 32 they are only counted, and the slot's release looks at every row.
+#[derive(Clone, Copy)]
+pub(crate) struct LockList {
+    locks: [Lock; 32],
+    count: usize,
+}
+
+impl LockList {
+    pub(crate) fn new() -> LockList
+        ensures { (l : Lock) → may_hold result l ≡ false }
+    {
+        LockList {
+            locks: [Lock::OnCell(CellMode::ReadCell, 0); 32],
+            count: 0,
+        }
+    }
+
+    // The locks, unless they were too many for the list.
+    pub(crate) fn as_slice(&self) -> Option<&[Lock]>
+        ensures { MatchOption result (32 < self.now.count) (λ locks. (l : Lock) → may_hold self.now l ≡ list_any (on_one_row l) locks.now) }
+    {
+        self.locks.get(..self.count)
+    }
+
+    pub(crate) fn push(&mut self, lock: Lock)
+        ensures { (l : Lock) → (may_hold self.old l || on_one_row l lock) ≡ true → may_hold self.new l ≡ true }
+    {
+        if self.count < self.locks.len() {
+            self.locks[self.count] = lock;
+        }
+        self.count = self.count.saturating_add(1);
+    }
+
+    pub(crate) fn clear(&mut self)
+        ensures { (l : Lock) → may_hold self.new l ≡ false }
+    {
+        self.count = 0;
+    }
+}
