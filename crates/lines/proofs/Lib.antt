@@ -1,2 +1,4 @@
+mod Digits
+mod FromEnd
 pub mod Buffers
 pub mod Written

@@ -3,7 +3,7 @@
 
 mod line;
 mod lines;
-mod text;
+mod number;
 
 pub use line::{write_answer_line, write_fault_line};
 pub use lines::write_lines;

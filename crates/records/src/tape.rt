@@ -40,17 +40,21 @@ fn next_request(left: &[u8], number: u32, start: u32) -> Result<(Request, &[u8])
     Ok(next)
 }
 
+// A record has at least five bytes: its tag, the length of its content, and one number.
+const SHORTEST: usize = 5;
+
 // Reads a tape of at most 60,000 bytes.
 pub fn read_tape(heap: Global, bytes: &[u8]) -> Result<Tape, AllocError>
     ensures { IfOk result (λ t. ReadsTape bytes.now (record { requests = t.requests.items; fault = option_map fault_values t.fault })) }
 {
-    let mut requests = Vec::new(heap);
     if bytes.len() > 60_000 {
         return Ok(Tape {
-            requests,
+            requests: Vec::new(heap),
             fault: Some(TapeFault::TooLong),
         });
     }
+    // Room for as many records as there can be, so that it need not grow.
+    let mut requests = Vec::with_capacity(heap, bytes.len() / SHORTEST)?;
     let mut left = bytes;
     while !left.is_empty() {
         let number = requests.len() as u32 + 1;
