@@ -1,6 +1,7 @@
 // A whole day of an engine, with what holds of every day.
 #![tactic(auto)]
 
+ghost use Rattle.std.specs.Prelude.{◌≡◌, OnErr};
 ghost use Rattle.engine.specs.Stores.{lists_of, Lent};
 ghost use Rattle.engine.specs.Beginning.{setup_with};
 ghost use Rattle.day.specs.Days.{RunsDay};
@@ -23,6 +24,7 @@ pub fn run_day<C: Store, R: Store, O: RightsOrder>(
 ) -> Result<usize, Refusal>
     ensures day { RunsDay (setup_with O.RightsOrder order.now policies.now) (lists_of C.Store R.Store cells.old rights.old) (lists_of C.Store R.Store cells.new rights.new) requests.now answers.old answers.new result }
     ensures lent { Lent C.Store R.Store cells.old rights.old cells.new rights.new }
+    ensures untouched { OnErr result ((cells.new ≡ cells.old) × (rights.new ≡ rights.old)) }
 {
     check_setup(cells, rights, order, policies)?;
     let mut engine = Engine::new(cells, rights, order, policies);

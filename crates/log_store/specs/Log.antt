@@ -6,6 +6,7 @@ use Rattle.std.specs.List.{range_with_len, flat_map}
 use Rattle.std.specs.Simd.{first_chunks}
 use Rattle.protocol.specs.Bytes.{two_bytes, four_bytes, two_at, four_at, field_bytes}
 use Rattle.protocol.specs.Refusals.{Outcome, answered, refused}
+use Rattle.stores.specs.Lists.{read_at}
 
 -- How many places there are, and where the place number k begins, from 0.
 abbrev pub places : ℕ → List ℕ → ℕ
@@ -54,9 +55,13 @@ ended t p = cond (nat_le (p + 9) (length t)) (slice_set t p 0) t
 abbrev pub appended : List ℕ → ℕ → ℕ → ℕ → List ℕ
 appended t p at v = ended (spliced t p (log_field at v)) (p + 9)
 
--- Every listed number copied into the base, and tag 0 for the first place.
+-- The bytes with these n numbers as the base, and tag 0 for the first place: an empty log.
+abbrev pub formatted : ℕ → List ℕ → List ℕ → List ℕ
+formatted n numbers t = flat_map four_bytes numbers ++ (0 ∷ drop (4 * n + 1) t)
+
+-- Every listed number copied into the base of an empty log.
 abbrev pub checkpoint : ℕ → List ℕ → List ℕ
-checkpoint n t = flat_map four_bytes (log_list n t) ++ (0 ∷ drop (4 * n + 1) t)
+checkpoint n t = formatted n (log_list n t) t
 
 -- Bytes with a free place: their checkpoint where none is free.
 abbrev pub with_room : ℕ → List ℕ → List ℕ
@@ -82,9 +87,20 @@ all_fields n t (suc k) = field_at n t (place n k) && all_fields n t k
 abbrev pub holds_log : ℕ → List ℕ → Bool
 holds_log n t = fits n t && all_fields n t (used n t)
 
+-- What formatting the bytes with these numbers comes to, and the bytes after it. Refused, it changes none.
+abbrev pub format_check : List ℕ → List ℕ → Outcome (Unit {0})
+format_check numbers t = cond (fits (length numbers) t) (answered tt) (refused 18)
+
+abbrev pub format_bytes : List ℕ → List ℕ → List ℕ
+format_bytes numbers t = cond (fits (length numbers) t) (formatted (length numbers) numbers t) t
+
 abbrev pub log_check : ℕ → List ℕ → Outcome (Unit {0})
 log_check n t = cond (holds_log n t) (answered tt) (refused 18)
 
 -- The list of a store that is made for n numbers on bytes t. It is empty where the check refuses.
 abbrev pub log_of : ℕ → List ℕ → List ℕ
 log_of n t = cond (holds_log n t) (log_list n t) []
+
+-- The number at a position of the log; bytes that hold none are refused first.
+abbrev pub log_read : ℕ → List ℕ → ℕ → Outcome ℕ
+log_read n t at = cond (holds_log n t) (read_at (log_list n t) at) (refused 18)

@@ -1,12 +1,12 @@
 // The bytes of a store on a log.
 ghost use Rattle.std.specs.Prelude.{◌≡◌, true, ◌||◌, ◌==◌};
-ghost use Rattle.log_store.specs.Log.{fits};
+ghost use Rattle.log_store.specs.Log.{holds_log};
 
-// The count fits the lent bytes, or is 0: by a rule, bytes that hold no log make an empty store. How many numbers there are, no byte
+// The lent bytes hold a log of the count, or the count is 0: by a rule, bytes that hold no log make an empty store. How many numbers there are, no byte
 // says, so the count stands beside.
 #[derive(Drop)]
 pub struct LogStore<'a> {
     pub(crate) bytes: &'a mut [u8],
     pub(crate) count: usize,
-    ghost in_bytes: { (count == 0 || fits count bytes.now) ≡ true },
+    ghost sound: { (count == 0 || holds_log count bytes.now) ≡ true },
 }

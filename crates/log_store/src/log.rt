@@ -114,7 +114,7 @@ impl<'a> Log<'a> {
 }
 
 // At most 256 numbers, with bytes for them and for one place.
-fn fits(bytes: &[u8], count: usize) -> bool
+pub(crate) fn fits(bytes: &[u8], count: usize) -> bool
     ensures { result ≡ fits count bytes.now }
 {
     count <= 256 && bytes.len() >= 4 * count + 9

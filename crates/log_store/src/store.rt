@@ -1,12 +1,13 @@
 // The log as a store.
-ghost use Rattle.std.specs.Prelude.{◌≡◌, true, if◌then◌else◌, slice_set};
+ghost use Rattle.std.specs.Prelude.{◌≡◌, true, if◌then◌else◌, length, slice_set, OnOk};
 ghost use Rattle.protocol.specs.Refusals.{outcome};
 ghost use Rattle.stores.specs.Lists.{write_at};
 ghost use Rattle.log_store.specs.Held.{bytes_after, bytes_of, lent_of, list_of};
-ghost use Rattle.log_store.specs.Log.{holds_log, log_check, log_of};
+ghost use Rattle.log_store.specs.Log.{format_bytes, format_check, holds_log, log_check, log_of, log_read};
 
 use crate::held::LogStore;
-use crate::log::{Log, holds_log};
+use crate::log::{Log, fits, holds_log};
+use crate::writes::format;
 use protocol::Refusal;
 use stores::Store;
 
@@ -21,6 +22,19 @@ impl<'a> LogStore<'a> {
         Ok(())
     }
 
+    // Writes the numbers as the base of an empty log. Bytes that have no room for that are refused, and stay.
+    pub fn format(bytes: &mut [u8], numbers: &[u32]) -> Result<(), Refusal>
+        ensures answer { outcome result ≡ format_check numbers.now bytes.old }
+        ensures after { bytes.new ≡ format_bytes numbers.now bytes.old }
+        ensures list { OnOk result (log_of (length numbers.now) bytes.new ≡ numbers.now) }
+    {
+        if !fits(bytes, numbers.len()) {
+            return Err(Refusal::BadLog);
+        }
+        format(bytes, numbers);
+        Ok(())
+    }
+
     // Bytes that `check` refuses make an empty store.
     pub fn new(bytes: &'a mut [u8], count: usize) -> LogStore<'a>
         ensures list { list_of result ≡ log_of count bytes.old }
@@ -30,6 +44,18 @@ impl<'a> LogStore<'a> {
     {
         let count = if holds_log(bytes, count) { count } else { 0 };
         LogStore { bytes, count }
+    }
+
+    // The number at a position of the log that the bytes hold: for bytes that are lent for reading only.
+    #[tactic(auto, using(crate::proofs::LogLaws::length_log))]
+    pub fn number_at(bytes: &[u8], count: usize, at: usize) -> Result<u32, Refusal>
+        ensures { outcome result ≡ log_read count bytes.now at }
+    {
+        LogStore::check(bytes, count)?;
+        if at >= count {
+            return Err(Refusal::Absent);
+        }
+        Ok(Log::new(bytes, count).number(at))
     }
 
     pub(crate) fn log(&self) -> Log<'_>

@@ -1,7 +1,7 @@
 // What a write makes of the bytes.
 ghost use Rattle.std.specs.Prelude.{◌≡◌, ◌+◌, ◌*◌, ◌<◌, ◌≤◌, length, slice_set};
 ghost use Rattle.log_store.specs.Held.{bytes_of, lent_of, list_of};
-ghost use Rattle.log_store.specs.Log.{appended, checkpoint, log_end, log_field, log_list, with_room, written};
+ghost use Rattle.log_store.specs.Log.{appended, checkpoint, formatted, log_end, log_field, log_list, with_room, written};
 
 use crate::bytes::put;
 use crate::held::LogStore;
@@ -25,6 +25,17 @@ fn append(bytes: &mut [u8], end: usize, position: u16, value: u32)
     if bytes.len() - next >= 9 {
         bytes[next] = 0;
     }
+}
+
+// Writes the numbers as the base, and empties the log.
+pub(crate) fn format(bytes: &mut [u8], numbers: &[u32])
+    requires { 4 * length numbers.now < length bytes.old }
+    ensures { bytes.new ≡ formatted (length numbers.now) numbers.now bytes.old }
+{
+    for (i, number) in numbers.iter().enumerate() {
+        put(bytes, 4 * i, &number.to_be_bytes());
+    }
+    bytes[4 * numbers.len()] = 0;
 }
 
 // Copies every listed number into the base, and empties the log.

@@ -1,3 +1,4 @@
 pub mod FourCells
 pub mod Messages
+pub mod Prints
 pub mod Runs

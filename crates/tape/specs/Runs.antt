@@ -63,3 +63,10 @@ module _ (S : Setup) (before after : Store) (tape buffer buffer' : List ℕ) whe
   RunsTape (Err OutOfMemory) = Stays
   RunsTape (Err (SetUp f)) = (setup_check S.is_right before.cells before.rights S.policies ≡ refused (refusal_number f)) × Stays
   RunsTape (Err (Lines f)) = Exceeds f
+
+-- What holds of the stores themselves, and not only of their lists, where nothing was run
+abbrev pub Untouched : Result ℕ TapeError → Type 0 → Type 0
+Untouched (Ok n) same = Unit {0}
+Untouched (Err OutOfMemory) same = same
+Untouched (Err (SetUp f)) same = same
+Untouched (Err (Lines f)) same = Unit {0}

@@ -1,18 +1,23 @@
 // The set-up on which daytape runs a tape: four cells at 0, the vector order, and two policies.
 ghost use Rattle.std.specs.Prelude.{◌≡◌, ℕ, IfOk, IfErr};
+ghost use Rattle.protocol.specs.Refusals.{answered};
 ghost use Rattle.serial.specs.Words.{Store};
-ghost use Rattle.tape.specs.Runs.{RunsTape};
-ghost use Rattle.tape.specs.FourCells.{four_cells_setup, four_cells_lists, Lists, FailsBy};
+ghost use Rattle.setup.specs.Admission.{setup_check};
+ghost use Rattle.tape.specs.Prints.{Lists, FailsBy};
+ghost use Rattle.tape.specs.FourCells.{four_cells_setup, four_cells_lists};
 
 use crate::error::TapeError;
-use crate::run::run_tape;
+use crate::print::print_tape;
 use protocol::{Object, Policy};
 use rights::VectorOrder;
 use std::alloc::Global;
 use stores::SliceStore;
 
-fn run_on_four_cells(heap: Global, tape: &[u8], buffer: &mut [u8]) -> Result<usize, TapeError>
-    ensures { (after : Store) × RunsTape four_cells_setup four_cells_lists after tape.now buffer.old buffer.new result }
+// The lines that daytape prints for a tape.
+pub fn lines_of_tape(heap: Global, tape: &[u8]) -> Result<Vec<u8>, TapeError>
+    ensures lines { IfOk result (λ lines. (evening : Store) × Lists four_cells_setup four_cells_lists evening tape.now lines.items) }
+    ensures set_up_accepts { setup_check four_cells_setup.is_right four_cells_lists.cells four_cells_lists.rights four_cells_setup.policies ≡ answered tt }
+    ensures fails { IfErr result (λ error. (evening : Store) × FailsBy four_cells_setup four_cells_lists evening tape.now error) }
 {
     let mut cells = [0; 4];
     let mut rights = [6, 7];
@@ -28,24 +33,12 @@ fn run_on_four_cells(heap: Global, tape: &[u8], buffer: &mut [u8]) -> Result<usi
     ];
     let mut cell_store = SliceStore::new(&mut cells);
     let mut right_store = SliceStore::new(&mut rights);
-    run_tape(
+    print_tape(
         heap,
         tape,
         &mut cell_store,
         &mut right_store,
         &VectorOrder,
         &policies,
-        buffer,
     )
-}
-
-// The lines that daytape prints for a tape. The longest line is `S 65535 65535` with its line feed, 14 bytes, and a tape has at most 12,000 records.
-pub fn lines_of_tape(heap: Global, tape: &[u8]) -> Result<Vec<u8>, TapeError>
-    ensures lines { IfOk result (λ lines. Lists tape.now lines.items) }
-    ensures fails { IfErr result (FailsBy tape.now) }
-{
-    let mut lines = vec![in heap; 0; 170_000]?;
-    let length = run_on_four_cells(heap, tape, lines.as_mut_slice())?;
-    lines.truncate(length);
-    Ok(lines)
 }

@@ -1,8 +1,8 @@
 // A tape is read, its requests are worked as a day, and the answers are written as lines.
-ghost use Rattle.std.specs.Prelude.{◌≡◌};
+ghost use Rattle.std.specs.Prelude.{◌≡◌, OnErr};
 ghost use Rattle.engine.specs.Stores.{lists_of, Lent};
 ghost use Rattle.engine.specs.Beginning.{setup_with};
-ghost use Rattle.tape.specs.Runs.{AnswersAll, RunsTape};
+ghost use Rattle.tape.specs.Runs.{AnswersAll, RunsTape, Untouched};
 
 use crate::error::TapeError;
 use crate::writing::write_tape_lines;
@@ -24,6 +24,7 @@ fn answer_all<C: Store, R: Store, O: RightsOrder>(
 ) -> Result<Vec<Answer>, TapeError>
     ensures day { AnswersAll (setup_with O.RightsOrder order.now policies.now) (lists_of C.Store R.Store cells.old rights.old) (lists_of C.Store R.Store cells.new rights.new) requests.now result }
     ensures lent { Lent C.Store R.Store cells.old rights.old cells.new rights.new }
+    ensures untouched { OnErr result ((cells.new ≡ cells.old) × (rights.new ≡ rights.old)) }
 {
     let mut answers = vec![in heap; Answer::Granted(0); requests.len()]?;
     run_day(
@@ -50,6 +51,7 @@ pub fn run_tape<C: Store, R: Store, O: RightsOrder>(
 ) -> Result<usize, TapeError>
     ensures runs { RunsTape (setup_with O.RightsOrder order.now policies.now) (lists_of C.Store R.Store cells.old rights.old) (lists_of C.Store R.Store cells.new rights.new) tape.now buffer.old buffer.new result }
     ensures lent { Lent C.Store R.Store cells.old rights.old cells.new rights.new }
+    ensures untouched { Untouched result ((cells.new ≡ cells.old) × (rights.new ≡ rights.old)) }
 {
     let read = read_tape(heap, tape)?;
     let requests = read.requests.as_slice();
