@@ -14,6 +14,8 @@ mod refusal_tests;
 #[cfg(test)]
 mod rights_tests;
 #[cfg(test)]
+mod setup_file_tests;
+#[cfg(test)]
 mod setup_tests;
 #[cfg(test)]
 mod store_tests;

@@ -1,0 +1,3 @@
+pub mod OrderLaws
+pub mod Orders
+pub mod Stores

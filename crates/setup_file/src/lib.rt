@@ -1,0 +1,15 @@
+// Reads the text of a set-up file.
+#![tactic(auto)]
+
+mod draft;
+mod error;
+mod item;
+mod keywords;
+mod number;
+mod read;
+mod setup;
+mod words;
+
+pub use error::{Problem, SetupFileError};
+pub use read::read_setup_file;
+pub use setup::{Make, OrderLine, SetupFile, StoreLine};
