@@ -1,0 +1,41 @@
+// Runs the tape on standard input as a day on the set-up of a file: prints a line for each answer, and then what the stores hold in the evening.
+#![tactic(auto)]
+
+use depot_day::run_depot;
+use std::fmt::Display;
+use std::io::{Read, Write};
+use std::process::ExitCode;
+use std::{env, fs};
+
+// One message on standard error, and the exit status that goes with it.
+fn fail(rt: &HostRuntime, path: &str, error: impl Display + Drop) -> anyhow::Result<ExitCode> {
+    eprintln!(rt; "{path}: {error}")?;
+    Ok(ExitCode::FAILURE)
+}
+
+fn print_day(rt: &HostRuntime, path: &str) -> anyhow::Result<ExitCode> {
+    let setup = match fs::read(rt, path) {
+        Ok(setup) => setup,
+        Err(error) => return fail(rt, path, error),
+    };
+    let mut tape = Vec::new(rt.alloc());
+    rt.stdin().read_to_end(&mut tape)?;
+    match run_depot(rt.alloc(), setup.as_slice(), tape.as_slice()) {
+        Ok(text) => {
+            rt.stdout().write_all(text.as_slice())?;
+            Ok(ExitCode::SUCCESS)
+        }
+        Err(error) => fail(rt, path, error),
+    }
+}
+
+fn main(rt: HostRuntime) -> anyhow::Result<ExitCode> {
+    let mut arguments = env::args(&rt)?.skip(1);
+    match (arguments.next(), arguments.next()) {
+        (Some(path), None) => print_day(&rt, path.as_str()),
+        _ => {
+            eprintln!(rt; "usage: depot SETUP < TAPE")?;
+            Ok(ExitCode::FAILURE)
+        }
+    }
+}

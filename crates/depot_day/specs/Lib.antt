@@ -1,0 +1,4 @@
+pub mod Making
+pub mod Messages
+pub mod Reports
+pub mod Runs
