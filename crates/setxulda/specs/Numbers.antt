@@ -1,0 +1,21 @@
+-- Outcomes as C gets them: a number, and a value beside it.
+use Rattle.std.specs.Prelude.{ℕ}
+use Rattle.protocol.specs.Refusals.{Outcome, answered, refused, refusal_number}
+use Rattle.tape.specs.declared.error.TapeError.{TapeError}
+use Rattle.tape.specs.declared.error.TapeError.TheVariants.{OutOfMemory, SetUp, Lines}
+
+-- 0 where nothing is refused
+abbrev pub number_of : {A : Type 0} → Outcome A → ℕ
+number_of (answered value) = 0
+number_of (refused number) = number
+
+-- the value, or another where it is refused
+abbrev pub value_or : ℕ → Outcome ℕ → ℕ
+value_or other (answered value) = value
+value_or other (refused number) = other
+
+-- Why a tape was not run, or not printed: its refusal, or want of memory.
+abbrev pub error_number : TapeError → ℕ
+error_number OutOfMemory = 255
+error_number (SetUp f) = refusal_number f
+error_number (Lines f) = refusal_number f
