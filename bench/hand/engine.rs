@@ -1,6 +1,8 @@
 //! The engine's rules (docs/RULES.md) once more, by hand, in ordinary Rust: no proof, and no line shared with the proved crates.
 //! It is there to be compared with them.
 
+use std::fmt;
+
 pub const READ: usize = 0;
 pub const RELAX: usize = 1;
 pub const RESTRICT: usize = 2;
@@ -40,6 +42,15 @@ pub enum Order {
 }
 
 impl Order {
+    /// The vector order of no thresholds, and the ladder of three from 1 to 100.
+    pub fn of(thresholds: &[u32]) -> Result<Order, u8> {
+        match *thresholds {
+            [] => Ok(Order::Vector),
+            [a, b, c] if thresholds.iter().all(|t| (1..=100).contains(t)) => Ok(Order::Ladder([a, b, c])),
+            _ => Err(17),
+        }
+    }
+
     fn is_right(self, code: u32) -> bool {
         match self {
             Order::Vector => code <= 7,
@@ -86,13 +97,13 @@ pub enum Answer {
     Aborted(u16, u16),
 }
 
-impl Answer {
-    pub fn line(self) -> String {
+impl fmt::Display for Answer {
+    fn fmt(&self, f: &mut fmt::Formatter) -> fmt::Result {
         match self {
-            Answer::Granted(n) => format!("G {n}\n"),
-            Answer::Wait(t) => format!("W {t}\n"),
-            Answer::Refused(n) => format!("R {n}\n"),
-            Answer::Aborted(t, p) => format!("S {t} {p}\n"),
+            Answer::Granted(n) => write!(f, "G {n}"),
+            Answer::Wait(t) => write!(f, "W {t}"),
+            Answer::Refused(n) => write!(f, "R {n}"),
+            Answer::Aborted(t, p) => write!(f, "S {t} {p}"),
         }
     }
 }
@@ -112,19 +123,19 @@ enum Slot {
     Aborted { number: u16, by: u16, policy: u16 },
 }
 
-pub struct Engine {
-    pub cells: Vec<u32>,
-    pub rights: Vec<u32>,
-    policies: Vec<Policy>,
+pub struct Engine<'a> {
+    cells: &'a mut [u32],
+    rights: &'a mut [u32],
+    policies: &'a [Policy],
     order: Order,
     slots: Vec<Slot>,
     opened: u32,
     commits: u32,
 }
 
-impl Engine {
+impl<'a> Engine<'a> {
     /// What set-up refuses, or an engine.
-    pub fn new(cells: Vec<u32>, rights: Vec<u32>, order: Order, policies: Vec<Policy>) -> Result<Engine, u8> {
+    pub fn new(cells: &'a mut [u32], rights: &'a mut [u32], order: Order, policies: &'a [Policy]) -> Result<Engine<'a>, u8> {
         if cells.len() > 256 || policies.len() > 64 {
             return Err(14);
         }
