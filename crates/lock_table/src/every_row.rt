@@ -13,6 +13,7 @@ use crate::rows::{ask_at, release_at, release_rows};
 use locking::{CellRow, Lock, PolicyRow, SlotIndex, SlotSet};
 
 // Asks for a lock on its row. Those struck for it lose their locks on that row alone; to wait, or to be refused for want of such a row, is to leave all rows as they are.
+#[inline(always)]
 pub fn ask_on_row(
     cells: &mut [CellRow],
     policies: &mut [PolicyRow],

@@ -28,6 +28,7 @@ pub fn holds_at<R: LockRow>(rows: &[R], at: u16, mode: R::Mode, slot: SlotIndex)
 }
 
 // To wait, or to be refused for want of such a row, is to leave all rows as they are.
+#[inline(always)]
 pub fn ask_at<R: LockRow>(
     rows: &mut [R],
     at: u16,

@@ -1,8 +1,8 @@
 // Who holds which lock on one cell or policy, where the locks are compatible, and what asking for one more comes to.
-ghost use Rattle.std.specs.Prelude.{◌≡◌, ℕ, ⊤, false, not, ◌&&◌, MatchOption, MatchResult};
-ghost use Rattle.locking.specs.Slots.{has, without_bit};
-ghost use Rattle.locking.specs.Locks.{some_says, hears, Waits, LockGranted};
-ghost use Rattle.locking.specs.declared.mode.LockAnswer.TheVariants.{Conflict};
+ghost use Rattle.std.specs.Prelude.{◌≡◌, ℕ, ⊤, false, MatchOption, MatchResult};
+ghost use Rattle.locking.specs.Slots.{has};
+ghost use Rattle.locking.specs.Locks.{hears, Waits, LockGranted};
+ghost use Rattle.locking.specs.declared.mode.LockAnswer.TheVariants.{Conflict, Signal};
 
 use crate::mode::LockAnswer;
 use crate::row::LockRow;
@@ -42,6 +42,12 @@ pub struct Blocked {
     pub by: SlotSet,
 }
 
+// The slots whose locks say no to a lock that is asked for, and those whose locks say signal.
+struct Heard {
+    conflicts: SlotSet,
+    signals: SlotSet,
+}
+
 impl<R: LockRow> Locks<R> {
     pub fn none() -> Locks<R>
         ensures { (m : R.Mode) (k : ℕ) → R.holds result.row m k ≡ false }
@@ -67,67 +73,56 @@ impl<R: LockRow> Locks<R> {
         row
     }
 
-    pub fn holds(self, mode: R::Mode, slot: SlotIndex) -> bool
+    fn holds(self, mode: R::Mode, slot: SlotIndex) -> bool
         ensures { result ≡ R.holds self.row mode slot.at }
     {
         self.row.holders(mode).contains(slot)
     }
 
-    // The slot loses its locks.
-    pub fn release(self, slot: SlotIndex) -> Locks<R>
-        ensures { (m : R.Mode) (k : ℕ) → R.holds result.row m k ≡ without_bit (R.holds self.row m) slot.at k }
+    // What the locks of the others say to a lock that the slot does not hold yet.
+    #[inline(always)]
+    fn heard(self, asked: R::Mode, slot: SlotIndex) -> Heard
+        requires { R.holds self.row asked slot.at ≡ false }
+        ensures conflicts { (k : ℕ) → has result.conflicts.mask k ≡ hears R.says R.modes (R.holds self.row) Conflict asked slot.at k }
+        ensures signals { (k : ℕ) → has result.signals.mask k ≡ hears R.says R.modes (R.holds self.row) Signal asked slot.at k }
     {
-        self.release_all(SlotSet::only(slot))
-    }
-
-    // The slots of the set lose their locks.
-    pub fn release_all(self, gone: SlotSet) -> Locks<R>
-        ensures { (m : R.Mode) (k : ℕ) → R.holds result.row m k ≡ (R.holds self.row m k && not (has gone.mask k)) }
-    {
-        Locks {
-            row: self.row.without(gone),
-        }
-    }
-
-    // The slots of which some lock says this answer to the lock asked for.
-    fn saying(self, answer: LockAnswer, asked: R::Mode) -> SlotSet
-        ensures { (k : ℕ) → has result.mask k ≡ some_says R.says R.modes (R.holds self.row) answer asked k }
-    {
-        let mut slots = SlotSet::empty();
+        let mut conflicts = SlotSet::empty();
+        let mut signals = SlotSet::empty();
         let modes = R::modes();
         for held in modes {
-            if R::answer(*held, asked) == answer {
-                slots = slots.union(self.row.holders(*held));
+            match R::answer(*held, asked) {
+                LockAnswer::Compatible => {}
+                LockAnswer::Conflict => conflicts = conflicts.union(self.row.holders(*held)),
+                LockAnswer::Signal => signals = signals.union(self.row.holders(*held)),
             }
         }
-        slots
-    }
-
-    // Those of them that count: the asker's own locks do not, and none does where it holds the lock already.
-    fn hearing(self, answer: LockAnswer, asked: R::Mode, slot: SlotIndex) -> SlotSet
-        ensures { (k : ℕ) → has result.mask k ≡ hears R.says R.modes (R.holds self.row) answer asked slot.at k }
-    {
-        if self.holds(asked, slot) {
-            return SlotSet::empty();
+        Heard {
+            conflicts: conflicts.without(slot),
+            signals: signals.without(slot),
         }
-        self.saying(answer, asked).without(slot)
     }
 
     // Asks for a lock: to wait is to leave all as it is.
+    #[inline(always)]
     pub fn ask(self, mode: R::Mode, slot: SlotIndex) -> Result<Granted<R>, Blocked>
         ensures { MatchResult result
             (λ granted. LockGranted R.Mode.eq R.says R.modes (R.holds self.row) mode slot.at (R.holds granted.locks.row) (has granted.struck.mask))
             (λ blocked. Waits (hears R.says R.modes (R.holds self.row) Conflict mode slot.at) (has blocked.by.mask)) }
     {
-        let by = self.hearing(LockAnswer::Conflict, mode, slot);
-        if !by.is_empty() {
-            return Err(Blocked { by });
+        if self.holds(mode, slot) {
+            return Ok(Granted {
+                locks: self,
+                struck: SlotSet::empty(),
+            });
         }
-        let struck = self.hearing(LockAnswer::Signal, mode, slot);
-        let row = self.row.without(struck).with(mode, slot);
+        let Heard { conflicts, signals } = self.heard(mode, slot);
+        if !conflicts.is_empty() {
+            return Err(Blocked { by: conflicts });
+        }
+        let row = self.row.without(signals).with(mode, slot);
         Ok(Granted {
             locks: Locks { row },
-            struck,
+            struck: signals,
         })
     }
 }

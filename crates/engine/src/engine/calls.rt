@@ -30,6 +30,7 @@ fn answered(called: Result<u32, Denial>) -> Answer
 
 impl<C: Store, R: Store, O: RightsOrder> Engine<'_, '_, '_, C, R, O> {
     // A call of an open transaction: what it is granted, or why it is not.
+    #[inline(always)]
     fn call_in(&mut self, asker: OpenSlot, call: Call) -> Result<u32, Denial>
         requires { OpenIn self.old.tables asker }
         ensures { Goes C.Store R.Store O.RightsOrder self.old (answer_of result, self.new) (call_in (setup_of O.RightsOrder self.old) (state_of C.Store R.Store self.old) call (open_slot (asker_in self.old.tables asker))) }
@@ -65,6 +66,8 @@ impl<C: Store, R: Store, O: RightsOrder> Engine<'_, '_, '_, C, R, O> {
     }
 
     // What a transaction is asked for goes by how it stands: it is nobody, goes on, ends, or stays aborted.
+    // Inlined into each of the calls with all that it does on the way to a lock, since there the action is known: half of what a call costs.
+    #[inline(always)]
     fn act(&mut self, transaction: TransactionId, action: Action) -> Answer
         ensures { Performs C.Store R.Store O.RightsOrder self.old (asks transaction action) result self.new }
     {

@@ -35,6 +35,7 @@ impl<C: Store, R: Store, O: RightsOrder> Engine<'_, '_, '_, C, R, O> {
     }
 
     // A read or a show
+    #[inline(always)]
     fn judge_view(&self, asker: OpenSlot, object: Object) -> Result<(), Refusal>
         ensures { refusal_in result ≡ judge_view (setup_of O.RightsOrder self.now) (store_of C.Store R.Store self.now) (asker_in self.now.tables asker) object }
     {
@@ -46,6 +47,7 @@ impl<C: Store, R: Store, O: RightsOrder> Engine<'_, '_, '_, C, R, O> {
     }
 
     // Whether the operation on the object is permitted, and there is room for one change more
+    #[inline(always)]
     fn judge_change(
         &self,
         asker: OpenSlot,
@@ -64,6 +66,7 @@ impl<C: Store, R: Store, O: RightsOrder> Engine<'_, '_, '_, C, R, O> {
         )
     }
 
+    #[inline(always)]
     fn judge_write(&self, asker: OpenSlot, object: Object) -> Result<(), Refusal>
         ensures { refusal_in result ≡ judge_write (setup_of O.RightsOrder self.now) (store_of C.Store R.Store self.now) (asker_in self.now.tables asker) object }
     {
@@ -72,6 +75,7 @@ impl<C: Store, R: Store, O: RightsOrder> Engine<'_, '_, '_, C, R, O> {
     }
 
     // By the right in force, whatever the transaction has set before
+    #[inline(always)]
     #[tactic(auto, unfolding(serial::specs::Model::judge))]
     fn judge_set(&self, asker: OpenSlot, policy: u16, right: u32) -> Result<(), Refusal>
         ensures { refusal_in result ≡ judge (setup_of O.RightsOrder self.now) (store_of C.Store R.Store self.now) (asker_in self.now.tables asker) (Sets policy right) }
@@ -86,6 +90,7 @@ impl<C: Store, R: Store, O: RightsOrder> Engine<'_, '_, '_, C, R, O> {
         self.judge_change(asker, object, operation)
     }
 
+    #[inline(always)]
     #[tactic(auto, unfolding(serial::specs::Model::judge))]
     pub(super) fn judge(&self, asker: OpenSlot, call: Call) -> Result<(), Refusal>
         ensures { refusal_in result ≡ judge (setup_of O.RightsOrder self.now) (store_of C.Store R.Store self.now) (asker_in self.now.tables asker) call }
@@ -99,6 +104,7 @@ impl<C: Store, R: Store, O: RightsOrder> Engine<'_, '_, '_, C, R, O> {
         }
     }
 
+    #[inline(always)]
     #[tactic(auto, unfolding(serial::specs::Model::lock_for))]
     pub(super) fn lock_for(&self, call: Call) -> Lock
         ensures { result ≡ lock_for (setup_of O.RightsOrder self.now) (store_of C.Store R.Store self.now) call }
@@ -116,6 +122,7 @@ impl<C: Store, R: Store, O: RightsOrder> Engine<'_, '_, '_, C, R, O> {
     }
 
     // A read or a show with what the transaction sees, a set with how many it struck.
+    #[inline(always)]
     #[tactic(auto, unfolding(serial::specs::Model::call_answer))]
     pub(super) fn answer_to(&self, asker: OpenSlot, call: Call, struck: u32) -> u32
         ensures { result ≡ call_answer (store_of C.Store R.Store self.now) (asker_in self.now.tables asker) call struck }

@@ -42,6 +42,7 @@ impl Tables {
         }
     }
 
+    #[inline(always)]
     pub(crate) fn find(&self, transaction: TransactionId) -> Found
         ensures { Finds (held self.now.locks) (used self.now.slots) transaction result }
     {
@@ -107,6 +108,7 @@ impl Tables {
 
     // Asks for a lock, for an open transaction: how many others were struck. That it is open in its slot is asked for here, since
     // it is a fact about the tables too, which no type of the asker could keep.
+    #[inline(always)]
     pub(crate) fn acquire(&mut self, asker: OpenSlot, lock: Lock) -> Result<u32, Denial>
         requires { OpenIn self.old asker }
         ensures { Acquires self.old asker lock result self.new }
@@ -134,6 +136,7 @@ impl Tables {
     }
 
     // The call's change, if it has one, goes into the transaction's workspace.
+    #[inline(always)]
     pub(crate) fn note(&mut self, asker: OpenSlot, call: Call)
         ensures { OpenIn self.old asker → NotedCall self.old asker call self.new }
     {

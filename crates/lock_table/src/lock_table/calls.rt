@@ -64,23 +64,27 @@ impl LockTable {
         }
     }
 
-    // Asks for a lock on its row, and lists it if it is new. Those struck for it have lost their locks on that row alone.
+    // Asks for a lock on its row, and lists it. Those struck for it have lost their locks on that row alone.
+    #[inline(always)]
     fn ask_row(&mut self, slot: SlotIndex, lock: Lock) -> Result<SlotSet, NotGranted>
         ensures asked { AskedOnRow self.old.cells self.old.policies lock slot.at result self.new.cells self.new.policies }
         ensures stays { OnErr result (self.new ≡ self.old) }
     {
-        let held = self.holds(slot, lock);
         let struck = ask_on_row(&mut self.cells, &mut self.policies, slot, lock)?;
-        if !held {
-            self.lists[slot.get()].push(lock);
-        }
+        self.lists[slot.get()].push(lock);
         Ok(struck)
     }
 
+    // Inlined down to the row, since a caller knows of which kind the lock is, and of which mode.
     // Asks for a lock, and answers who is struck for it. To wait, or to be refused for want of such a row, is to leave all as it is.
+    #[inline(always)]
     pub fn ask(&mut self, slot: SlotIndex, lock: Lock) -> Result<SlotSet, NotGranted>
         ensures { Asked self.old lock slot.at result self.new }
     {
+        // Held already, it stands in the list, and nobody counts.
+        if self.holds(slot, lock) {
+            return Ok(SlotSet::empty());
+        }
         let struck = self.ask_row(slot, lock)?;
         self.release(struck);
         Ok(struck)

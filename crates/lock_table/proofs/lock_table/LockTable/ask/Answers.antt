@@ -1,13 +1,22 @@
-use Rattle.std.proofs.Common.{◌≡◌, Bool, not, ◌&&◌, ◌||◌, eqb, ap, ◌∙◌, arith}
+use Rattle.std.proofs.Common.{◌≡◌, Bool, not, ◌&&◌, ◌||◌, eqb, ap, sym, ◌∙◌, arith}
 use Rattle.std.proofs.lemmas.Bool.Decides.{nat_tests}
 use Rattle.locking.specs.Slots.{has}
 use Rattle.serial.specs.Locks.{same_lock}
 use Rattle.lock_table.specs.Held.{held}
+use Rattle.lock_table.proofs.Listing.{held_row, granted_again}
 use Rattle.lock_table.proofs.lock_table.LockTable.ask.Goals as goal
 
 -- the asker is not struck
 come : (a b h r s x y : Bool) → s ≡ ((x && not b) && y) → (((a && b) || (h && not (s && r))) && not s) ≡ ((a && b) || (h && not s))
 come a b h r s x y e = grind (arith, nat_tests)
+
+pub returns-then-holds : goal.returns-then-holds
+returns-then-holds c =
+    let t = c.args.self.now in
+    let already = sym c.holds.ensures ∙ c.if-holds.true in (
+      held_row t.cells t.policies c.args.slot.at c.args.lock t.celled t.policed already,
+      granted_again t.cells t.policies c.args.lock c.args.slot.at (has c.empty.result.mask) already c.empty.ensures,
+    )
 
 pub returns : goal.returns
 returns c =
