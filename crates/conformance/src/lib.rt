@@ -2,6 +2,8 @@
 #![tactic(auto)]
 
 #[cfg(test)]
+mod check;
+#[cfg(test)]
 mod line_tests;
 #[cfg(test)]
 mod lock_tests;

@@ -1,4 +1,5 @@
 // Lines byte by byte: what writing makes, and what it leaves.
+use crate::check::check_eq;
 use lines::{write_answer_line, write_fault_line, write_lines};
 use protocol::Answer;
 use protocol::Answer::{Aborted, Granted, Refused, Wait};
@@ -9,8 +10,8 @@ use std::process::Abort;
 // Writes the answer's line into sixteen dots.
 fn says(rt: &impl Abort, answer: Answer, len: usize, text: [u8; 16]) {
     let mut buffer = [b'.'; 16];
-    assert_eq!(rt; write_answer_line(answer, &mut buffer), Ok(len));
-    assert_eq!(rt; buffer, text);
+    check_eq(rt, write_answer_line(answer, &mut buffer), Ok(len));
+    check_eq(rt, buffer, text);
 }
 
 #[test]
@@ -43,36 +44,41 @@ fn a_fault_has_a_line(rt: HostRuntime) {
         start: 5,
     };
     let mut short = *b"........";
-    assert_eq!(rt; write_fault_line(values, &mut short), Err(ExceedsBuffer));
-    assert_eq!(rt; short, *b"........");
+    check_eq(
+        &rt,
+        write_fault_line(values, &mut short),
+        Err(ExceedsBuffer),
+    );
+    check_eq(&rt, short, *b"........");
     let mut enough = *b".........";
-    assert_eq!(rt; write_fault_line(values, &mut enough), Ok(9));
-    assert_eq!(rt; enough, *b"F 10 2 5\n");
+    check_eq(&rt, write_fault_line(values, &mut enough), Ok(9));
+    check_eq(&rt, enough, *b"F 10 2 5\n");
 }
 
 #[test]
 fn a_line_that_exceeds_the_buffer_is_not_written(rt: HostRuntime) {
     let mut short = *b"...";
-    assert_eq!(rt;
+    check_eq(
+        &rt,
         write_answer_line(Granted(1), &mut short),
-        Err(ExceedsBuffer)
+        Err(ExceedsBuffer),
     );
-    assert_eq!(rt; short, *b"...");
+    check_eq(&rt, short, *b"...");
     let mut enough = *b"....";
-    assert_eq!(rt; write_answer_line(Granted(1), &mut enough), Ok(4));
-    assert_eq!(rt; enough, *b"G 1\n");
+    check_eq(&rt, write_answer_line(Granted(1), &mut enough), Ok(4));
+    check_eq(&rt, enough, *b"G 1\n");
 }
 
 #[test]
 fn lines_one_after_another(rt: HostRuntime) {
     let answers = [Granted(10), Wait(7), Granted(3)];
     let mut buffer = *b"................";
-    assert_eq!(rt; write_lines(&answers, &mut buffer), Ok(13));
-    assert_eq!(rt; buffer, *b"G 10\nW 7\nG 3\n...");
+    check_eq(&rt, write_lines(&answers, &mut buffer), Ok(13));
+    check_eq(&rt, buffer, *b"G 10\nW 7\nG 3\n...");
     let mut enough = *b".............";
-    assert_eq!(rt; write_lines(&answers, &mut enough), Ok(13));
-    assert_eq!(rt; enough, *b"G 10\nW 7\nG 3\n");
-    assert_eq!(rt; write_lines(&[], &mut []), Ok(0));
+    check_eq(&rt, write_lines(&answers, &mut enough), Ok(13));
+    check_eq(&rt, enough, *b"G 10\nW 7\nG 3\n");
+    check_eq(&rt, write_lines(&[], &mut []), Ok(0));
 }
 
 // The third line would fit where the second does not.
@@ -80,9 +86,9 @@ fn lines_one_after_another(rt: HostRuntime) {
 fn lines_that_fit_stay_written(rt: HostRuntime) {
     let answers = [Granted(1), Granted(4294967295), Wait(7)];
     let mut buffer = *b"................";
-    assert_eq!(rt; write_lines(&answers, &mut buffer), Err(ExceedsBuffer));
-    assert_eq!(rt; buffer, *b"G 1\n............");
+    check_eq(&rt, write_lines(&answers, &mut buffer), Err(ExceedsBuffer));
+    check_eq(&rt, buffer, *b"G 1\n............");
     let mut short = *b"...";
-    assert_eq!(rt; write_lines(&answers, &mut short), Err(ExceedsBuffer));
-    assert_eq!(rt; short, *b"...");
+    check_eq(&rt, write_lines(&answers, &mut short), Err(ExceedsBuffer));
+    check_eq(&rt, short, *b"...");
 }

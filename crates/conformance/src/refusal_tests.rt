@@ -1,9 +1,10 @@
 // The numbers of refusals.
+use crate::check::check_eq;
 use protocol::Refusal;
 
 #[test]
 fn every_refusal_has_its_number(rt: HostRuntime) {
-    let numbers = [
+    static NUMBERS: [(Refusal, u8); 14] = [
         (Refusal::TooManyOpened, 1),
         (Refusal::NoFreeSlot, 2),
         (Refusal::NoSuchTransaction, 3),
@@ -19,7 +20,7 @@ fn every_refusal_has_its_number(rt: HostRuntime) {
         (Refusal::BadThreshold, 17),
         (Refusal::BadLog, 18),
     ];
-    for (refusal, number) in numbers {
-        assert_eq!(rt; refusal.number(), number, "{refusal:?}");
+    for (refusal, number) in &NUMBERS {
+        check_eq(&rt, (*refusal, refusal.number()), (*refusal, *number));
     }
 }

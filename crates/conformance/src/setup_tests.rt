@@ -1,4 +1,5 @@
 // What set-up refuses, at its limits and in its order.
+use crate::check::check_eq;
 use protocol::Object::{OfCell, OfPolicy};
 use protocol::Refusal::{BadPolicies, BadRights, TooMany};
 use protocol::{Object, Policy, Refusal};
@@ -20,52 +21,62 @@ fn set_up(cells: &mut [u32], rights: &mut [u32], policies: &[Policy]) -> Result<
 #[test]
 fn at_most_256_cells(rt: HostRuntime) {
     let policies = [on(OfCell(255))];
-    assert_eq!(rt; set_up(&mut [0; 256], &mut [7], &policies), Ok(()));
-    assert_eq!(rt; set_up(&mut [0; 257], &mut [7], &policies), Err(TooMany));
+    check_eq(&rt, set_up(&mut [0; 256], &mut [7], &policies), Ok(()));
+    check_eq(
+        &rt,
+        set_up(&mut [0; 257], &mut [7], &policies),
+        Err(TooMany),
+    );
 }
 
 #[test]
 fn at_most_64_policies(rt: HostRuntime) {
-    assert_eq!(rt;
+    check_eq(
+        &rt,
         set_up(&mut [0], &mut [7; 64], &[on(OfPolicy(63)); 64]),
-        Ok(())
+        Ok(()),
     );
-    assert_eq!(rt;
+    check_eq(
+        &rt,
         set_up(&mut [0], &mut [7; 65], &[on(OfPolicy(63)); 65]),
-        Err(TooMany)
+        Err(TooMany),
     );
 }
 
 #[test]
 fn as_many_policies_as_rights(rt: HostRuntime) {
     let policies = [on(OfCell(0)), on(OfPolicy(0))];
-    assert_eq!(rt; set_up(&mut [0], &mut [6, 7], &policies), Ok(()));
-    assert_eq!(rt; set_up(&mut [0], &mut [6], &policies), Err(BadPolicies));
+    check_eq(&rt, set_up(&mut [0], &mut [6, 7], &policies), Ok(()));
+    check_eq(&rt, set_up(&mut [0], &mut [6], &policies), Err(BadPolicies));
 }
 
 #[test]
 fn every_object_is_there(rt: HostRuntime) {
-    assert_eq!(rt; set_up(&mut [0; 4], &mut [6], &[on(OfCell(3))]), Ok(()));
-    assert_eq!(rt;
+    check_eq(&rt, set_up(&mut [0; 4], &mut [6], &[on(OfCell(3))]), Ok(()));
+    check_eq(
+        &rt,
         set_up(&mut [0; 4], &mut [6], &[on(OfCell(4))]),
-        Err(BadPolicies)
+        Err(BadPolicies),
     );
-    assert_eq!(rt;
+    check_eq(
+        &rt,
         set_up(&mut [0; 4], &mut [6], &[on(OfPolicy(1))]),
-        Err(BadPolicies)
+        Err(BadPolicies),
     );
 }
 
 #[test]
 fn every_stored_code_is_a_right(rt: HostRuntime) {
-    assert_eq!(rt; set_up(&mut [0], &mut [7], &[on(OfCell(0))]), Ok(()));
-    assert_eq!(rt;
+    check_eq(&rt, set_up(&mut [0], &mut [7], &[on(OfCell(0))]), Ok(()));
+    check_eq(
+        &rt,
         set_up(&mut [0], &mut [8], &[on(OfCell(0))]),
-        Err(BadRights)
+        Err(BadRights),
     );
     // The absent object comes first.
-    assert_eq!(rt;
+    check_eq(
+        &rt,
         set_up(&mut [0], &mut [8], &[on(OfCell(1))]),
-        Err(BadPolicies)
+        Err(BadPolicies),
     );
 }

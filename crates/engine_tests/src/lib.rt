@@ -2,6 +2,8 @@
 #![tactic(auto)]
 
 #[cfg(test)]
+mod check;
+#[cfg(test)]
 mod day_tests;
 #[cfg(test)]
 mod limit_tests;

@@ -1,57 +1,56 @@
 // Requests in few words, and engines and days on given stores.
+use crate::check::check_eq;
 use day::run_day;
 use engine::Engine;
 use protocol::{Answer, Object, Policy, Refusal, Request, TransactionId};
 use rights::{RightsOrder, VectorOrder};
-use std::ops::Range;
 use std::process::Abort;
 use stores::{SliceStore, Store};
 
-pub(crate) fn open(subject: u16) -> Request {
-    Request::Open { subject }
+// A request in few words. A table of these is a static, of which nothing is proved where it is used.
+#[derive(Clone, Copy)]
+pub(crate) enum Call {
+    Open(u16),
+    Deploy(TransactionId, u16),
+    Read(TransactionId, u16),
+    Write(TransactionId, u16, u32),
+    Show(TransactionId, u16),
+    Set(TransactionId, u16, u32),
+    Commit(TransactionId),
+    GiveUp(TransactionId),
 }
 
-pub(crate) fn deploy(transaction: TransactionId, policy: u16) -> Request {
-    Request::Deploy {
-        transaction,
-        policy,
+impl Call {
+    pub(crate) fn request(self) -> Request {
+        match self {
+            Call::Open(subject) => Request::Open { subject },
+            Call::Deploy(transaction, policy) => Request::Deploy {
+                transaction,
+                policy,
+            },
+            Call::Read(transaction, cell) => Request::Read { transaction, cell },
+            Call::Write(transaction, cell, value) => Request::Write {
+                transaction,
+                cell,
+                value,
+            },
+            Call::Show(transaction, policy) => Request::Show {
+                transaction,
+                policy,
+            },
+            Call::Set(transaction, policy, right) => Request::Set {
+                transaction,
+                policy,
+                right,
+            },
+            Call::Commit(transaction) => Request::Commit { transaction },
+            Call::GiveUp(transaction) => Request::GiveUp { transaction },
+        }
     }
 }
 
-pub(crate) fn read(transaction: TransactionId, cell: u16) -> Request {
-    Request::Read { transaction, cell }
-}
-
-pub(crate) fn write(transaction: TransactionId, cell: u16, value: u32) -> Request {
-    Request::Write {
-        transaction,
-        cell,
-        value,
-    }
-}
-
-pub(crate) fn show(transaction: TransactionId, policy: u16) -> Request {
-    Request::Show {
-        transaction,
-        policy,
-    }
-}
-
-pub(crate) fn set(transaction: TransactionId, policy: u16, right: u32) -> Request {
-    Request::Set {
-        transaction,
-        policy,
-        right,
-    }
-}
-
-pub(crate) fn commit(transaction: TransactionId) -> Request {
-    Request::Commit { transaction }
-}
-
-pub(crate) fn give_up(transaction: TransactionId) -> Request {
-    Request::GiveUp { transaction }
-}
+// A request beside the answer that it is to get.
+pub(crate) type Step = (Call, Answer);
 
 pub(crate) fn on_cell(subject: u16, cell: u16) -> Policy {
     let object = Object::OfCell(cell);
@@ -63,14 +62,14 @@ pub(crate) fn on_policy(subject: u16, policy: u16) -> Policy {
     Policy { subject, object }
 }
 
-// Makes the requests in turn, each beside the answer that it is to get. Steps are numbered from 0.
+// Makes the requests in turn. Steps are numbered from 0.
 pub(crate) fn follow<C: Store, R: Store, O: RightsOrder>(
     rt: &impl Abort,
     engine: &mut Engine<'_, '_, '_, C, R, O>,
-    steps: &[(Request, Answer)],
+    steps: &[Step],
 ) {
-    for (at, (request, expected)) in steps.iter().enumerate() {
-        assert_eq!(rt; engine.call(*request), *expected, "step {at}");
+    for (at, (call, expected)) in steps.iter().enumerate() {
+        check_eq(rt, (at, engine.call(call.request())), (at, *expected));
     }
 }
 
@@ -81,7 +80,7 @@ pub(crate) fn work_on<C: Store, R: Store, O: RightsOrder>(
     rights: &mut R,
     order: &O,
     policies: &[Policy],
-    steps: &[(Request, Answer)],
+    steps: &[Step],
 ) {
     let mut engine = Engine::new(cells, rights, order, policies);
     follow(rt, &mut engine, steps);
@@ -93,7 +92,7 @@ pub(crate) fn work(
     cells: &mut [u32],
     rights: &mut [u32],
     policies: &[Policy],
-    steps: &[(Request, Answer)],
+    steps: &[Step],
 ) {
     let mut cells = SliceStore::new(cells);
     let mut rights = SliceStore::new(rights);
@@ -120,21 +119,10 @@ pub(crate) fn day_on(
     )
 }
 
-// Opens transactions for subject 1, which get these numbers.
-pub(crate) fn open_each<C: Store, R: Store, O: RightsOrder>(
-    rt: &impl Abort,
-    engine: &mut Engine<'_, '_, '_, C, R, O>,
-    numbers: Range<u32>,
-) {
-    for number in numbers {
-        assert_eq!(rt; engine.open(1), Answer::Granted(number));
-    }
-}
-
 // Holds a store to its numbers.
 pub(crate) fn check_store<S: Store>(rt: &impl Abort, store: &S, numbers: &[u32]) {
-    assert_eq!(rt; store.size(), numbers.len());
+    check_eq(rt, store.size(), numbers.len());
     for (at, number) in numbers.iter().enumerate() {
-        assert_eq!(rt; store.read(at), Ok(*number), "position {at}");
+        check_eq(rt, (at, store.read(at)), (at, Ok(*number)));
     }
 }
