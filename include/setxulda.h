@@ -69,7 +69,8 @@ uint32_t setxulda_read_log(const uint8_t *log, size_t log_len, size_t count, siz
  *   17, 14, 15, 16  as of setxulda_check_setup
  *   SETXULDA_NO_MEMORY
  *       nothing was run, and neither list nor `lines` has changed
- *   12  the day was run, as the lists show, but its lines exceed `lines`, which has the lines of the first answers, as many as fit; later bytes stay */
+ *   12  the day was run, as the lists show, but its lines exceed `lines`, which has the lines of the first answers, as many as fit; later bytes stay.
+ *       In 170,000 bytes the lines of every tape have room */
 uint32_t setxulda_run_tape(const uint32_t *thresholds, size_t threshold_count,
                            uint32_t *cells, size_t cell_count,
                            uint32_t *rights, size_t right_count,

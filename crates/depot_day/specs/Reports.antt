@@ -1,5 +1,5 @@
 -- What the report of a day says.
-use Rattle.std.specs.Prelude.{◌≡◌, ℕ, ◌<◌, List, ◌++◌, length, Ok, Err, Result, Vec, codes, vec_items}
+use Rattle.std.specs.Prelude.{◌≡◌, ℕ, List, ◌++◌, Ok, Err, Result, Vec, codes, vec_items}
 use Rattle.std.specs.declared.alloc.Global.{Global}
 use Rattle.protocol.specs.Refusals.{Outcome, answered, refused, refusal_number}
 use Rattle.protocol.specs.declared.answer.Answer.{Answer}
@@ -9,7 +9,7 @@ use Rattle.serial.specs.Words.{Setup, Store}
 use Rattle.serial.specs.OneDay.{DayDone}
 use Rattle.tape.specs.Runs.{tape_lines}
 use Rattle.depot_day.specs.declared.error.DayError.{DayError}
-use Rattle.depot_day.specs.declared.error.DayError.TheVariants.{OutOfMemory, Refused, TooManyLines}
+use Rattle.depot_day.specs.declared.error.DayError.TheVariants.{OutOfMemory, Refused}
 
 -- The numbers that two stores hold, a line for each.
 abbrev pub store_lines : Store → List ℕ
@@ -26,17 +26,8 @@ module _ (S : Setup) (morning : Store) (tape : List ℕ) where
     pub day_done : DayDone S morning evening (tape_of tape).requests answers
     pub text_is : text ≡ tape_lines answers (tape_of tape).fault ++ store_lines evening
 
-  -- The same day was worked, and there is no room for its lines.
-  pub record TooLong : Type 0 where
-    pub answers : List Answer
-    pub evening : Store
-    pub records_are_requests : ReadsTape tape (tape_of tape)
-    pub day_done : DayDone S morning evening (tape_of tape).requests answers
-    pub lines_exceed : 170000 < length (tape_lines answers (tape_of tape).fault)
-
   -- By what making all of it comes to. Of want of memory nothing is said.
   abbrev pub ReportsDay : Outcome (Unit {0}) → Result (Vec ℕ Global) DayError → Type 0
   ReportsDay made (Ok text) = (made ≡ answered tt) × Reports (vec_items text)
   ReportsDay made (Err OutOfMemory) = Unit {0}
   ReportsDay made (Err (Refused f)) = made ≡ refused (refusal_number f)
-  ReportsDay made (Err TooManyLines) = (made ≡ answered tt) × TooLong

@@ -7,9 +7,9 @@ use Rattle.serial.specs.Words.{Setup, Store}
 use Rattle.setup_file.specs.SetupFiles.{SetupContent, content_of}
 use Rattle.setup_file.specs.declared.error.SetupFileError.TheVariants as file_error
 use Rattle.depot_day.specs.declared.error.DepotError.{DepotError}
-use Rattle.depot_day.specs.declared.error.DepotError.TheVariants.{OutOfMemory, Unreadable, TooManyLines}
+use Rattle.depot_day.specs.declared.error.DepotError.TheVariants.{OutOfMemory, Unreadable}
 use Rattle.depot_day.specs.Making.{making_check, day_setup, morning_lists}
-use Rattle.depot_day.specs.Reports.{Reports, TooLong}
+use Rattle.depot_day.specs.Reports.{Reports}
 
 -- By what making the order, the stores and the set-up comes to: the report of the day, or the line of the refusal and nothing else.
 abbrev pub PrintsDay : Setup → Store → List ℕ → Outcome (Unit {0}) → List ℕ → Type 0
@@ -26,4 +26,3 @@ RunsDepot text tape (Ok printed) = (file : SetupContent) × (content_of text ≡
 RunsDepot text tape (Err OutOfMemory) = Unit {0}
 RunsDepot text tape (Err (Unreadable file_error.OutOfMemory)) = Unit {0}
 RunsDepot text tape (Err (Unreadable (file_error.Unreadable number problem))) = content_of text ≡ Err (record { line = number; problem = problem })
-RunsDepot text tape (Err TooManyLines) = (file : SetupContent) × (content_of text ≡ Ok file) × (making_check file ≡ answered tt) × TooLong (day_setup file) (morning_lists file) tape

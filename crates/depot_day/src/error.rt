@@ -8,23 +8,19 @@ use setup_file::SetupFileError;
 use std::alloc::AllocError;
 use std::error::Error;
 use std::fmt;
-use tape::TapeError;
+use tape::PrintError;
 
 #[derive(Clone, Copy, PartialEq, Eq, Debug)]
 pub enum DayError {
     OutOfMemory,
     // A store, the order or the set-up cannot be made; nothing was run.
     Refused(Refusal),
-    // The day was run, and there is no room for its lines.
-    TooManyLines,
 }
 
 #[derive(Clone, Copy, PartialEq, Eq, Debug)]
 pub enum DepotError {
     OutOfMemory,
     Unreadable(SetupFileError),
-    // The day was run, and there is no room for its lines.
-    TooManyLines,
 }
 
 impl From<AllocError> for DayError {
@@ -43,14 +39,13 @@ impl From<Refusal> for DayError {
     }
 }
 
-impl From<TapeError> for DayError {
+impl From<PrintError> for DayError {
     ghost from_gives = { λ error r. r ≡ cause error };
 
-    fn from(error: TapeError) -> DayError {
+    fn from(error: PrintError) -> DayError {
         match error {
-            TapeError::OutOfMemory => DayError::OutOfMemory,
-            TapeError::SetUp(refusal) => DayError::Refused(refusal),
-            TapeError::Lines(_) => DayError::TooManyLines,
+            PrintError::OutOfMemory => DayError::OutOfMemory,
+            PrintError::SetUp(refusal) => DayError::Refused(refusal),
         }
     }
 }
@@ -82,7 +77,6 @@ impl fmt::Display for DepotError {
         match *self {
             DepotError::OutOfMemory => f.write_str("there is not enough memory for the day"),
             DepotError::Unreadable(error) => write!(f, "{error}"),
-            DepotError::TooManyLines => f.write_str("the lines exceed the room for them"),
         }
     }
 }

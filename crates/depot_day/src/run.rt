@@ -29,6 +29,5 @@ pub fn run_depot(heap: Global, setup: &[u8], tape: &[u8]) -> Result<Vec<u8>, Dep
         Ok(report) => Ok(report),
         Err(DayError::Refused(refusal)) => Ok(refusal_line(heap, refusal)?),
         Err(DayError::OutOfMemory) => Err(DepotError::OutOfMemory),
-        Err(DayError::TooManyLines) => Err(DepotError::TooManyLines),
     }
 }

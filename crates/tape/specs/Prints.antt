@@ -1,13 +1,13 @@
 -- What the lines of a tape say, and why there are none.
-use Rattle.std.specs.Prelude.{◌≡◌, ℕ, ◌<◌, List, length}
+use Rattle.std.specs.Prelude.{◌≡◌, ℕ, List}
 use Rattle.protocol.specs.Refusals.{answered, refused, refusal_number}
 use Rattle.protocol.specs.declared.answer.Answer.{Answer}
 use Rattle.records.specs.Tapes.{tape_of, ReadsTape}
 use Rattle.serial.specs.Words.{Setup, Store}
 use Rattle.serial.specs.OneDay.{DayDone}
 use Rattle.setup.specs.Admission.{setup_check}
-use Rattle.tape.specs.declared.error.TapeError.{TapeError}
-use Rattle.tape.specs.declared.error.TapeError.TheVariants.{OutOfMemory, SetUp, Lines}
+use Rattle.tape.specs.declared.error.PrintError.{PrintError}
+use Rattle.tape.specs.declared.error.PrintError.TheVariants.{OutOfMemory, SetUp}
 use Rattle.tape.specs.Runs.{tape_lines}
 
 -- By the set-up, the stores' lists in the morning and in the evening, and the tape
@@ -20,16 +20,7 @@ module _ (S : Setup) (before after : Store) (tape : List ℕ) where
     pub day_done : DayDone S before after (tape_of tape).requests answers
     pub lines_are_answers : lines ≡ tape_lines answers (tape_of tape).fault
 
-  -- The same day was worked, and its lines exceed the room for them.
-  pub record TooLong : Type 0 where
-    pub answers : List Answer
-    pub set_up_accepts : setup_check S.is_right before.cells before.rights S.policies ≡ answered tt
-    pub records_are_requests : ReadsTape tape (tape_of tape)
-    pub day_done : DayDone S before after (tape_of tape).requests answers
-    pub lines_exceed : 170000 < length (tape_lines answers (tape_of tape).fault)
-
   -- Why there are no lines
-  abbrev pub FailsBy : TapeError → Type 0
+  abbrev pub FailsBy : PrintError → Type 0
   FailsBy OutOfMemory = after ≡ before
   FailsBy (SetUp f) = (setup_check S.is_right before.cells before.rights S.policies ≡ refused (refusal_number f)) × (after ≡ before)
-  FailsBy (Lines f) = (refusal_number f ≡ 12) × TooLong

@@ -1,5 +1,5 @@
 -- The lines of a tape, and what running it comes to.
-use Rattle.std.specs.Prelude.{◌≡◌, ℕ, cond, List, ◌++◌, length, drop, Ok, Err, vec_items, Option, Result, Vec, nat_le}
+use Rattle.std.specs.Prelude.{◌≡◌, ℕ, ◌≤◌, cond, List, ◌++◌, length, drop, Ok, Err, vec_items, Option, Result, Vec, nat_le}
 use Rattle.protocol.specs.Refusals.{answered, refused, refusal_number}
 use Rattle.protocol.specs.declared.answer.Answer.{Answer}
 use Rattle.protocol.specs.declared.refusal.Refusal.{Refusal}
@@ -40,6 +40,8 @@ module _ (S : Setup) (before after : Store) (tape buffer buffer' : List ℕ) whe
     pub set_up_accepts : setup_check S.is_right before.cells before.rights S.policies ≡ answered tt
     pub day_done : DayDone S before after (tape_of tape).requests answers
     pub buffer_after : buffer' ≡ lines_after answers (tape_of tape).fault buffer
+    -- Whatever the tape, its lines have room in 170,000 bytes.
+    pub lines_bounded : length (tape_lines answers (tape_of tape).fault) ≤ 170000
 
   -- Its lines stand at the front of the buffer.
   pub record Printed (n : ℕ) : Type 0 where

@@ -1,7 +1,6 @@
 // Why a tape was not run, or not printed.
 ghost use Rattle.std.specs.Prelude.{◌≡◌, Some};
-ghost use Rattle.tape.specs.Messages.{message};
-ghost use Rattle.tape.specs.declared.error.TapeError.TheVariants.{OutOfMemory};
+ghost use Rattle.tape.specs.Messages.{message, print_message};
 
 use protocol::Refusal;
 use std::alloc::AllocError;
@@ -18,11 +17,31 @@ pub enum TapeError {
     Lines(Refusal),
 }
 
+// Why a tape has no lines; nothing was run. There is no third error, since the lines of any tape have room.
+#[derive(Clone, Copy, PartialEq, Eq, Debug)]
+pub enum PrintError {
+    OutOfMemory,
+    // Set-up refuses.
+    SetUp(Refusal),
+}
+
 impl From<AllocError> for TapeError {
+    ghost use Rattle.tape.specs.declared.error.TapeError.TheVariants.{OutOfMemory};
+
     ghost from_gives = { λ _ r. r ≡ OutOfMemory };
 
     fn from(_error: AllocError) -> TapeError {
         TapeError::OutOfMemory
+    }
+}
+
+impl From<AllocError> for PrintError {
+    ghost use Rattle.tape.specs.declared.error.PrintError.TheVariants.{OutOfMemory};
+
+    ghost from_gives = { λ _ r. r ≡ OutOfMemory };
+
+    fn from(_error: AllocError) -> PrintError {
+        PrintError::OutOfMemory
     }
 }
 
@@ -38,4 +57,17 @@ impl fmt::Display for TapeError {
     }
 }
 
+impl fmt::Display for PrintError {
+    ghost output = { λ error. Some (print_message error) };
+
+    fn fmt<W: fmt::Write>(&self, f: &mut fmt::Formatter<W>) -> fmt::Result {
+        f.write_str(match self {
+            PrintError::OutOfMemory => "there is not enough memory for the tape",
+            PrintError::SetUp(_) => "set-up refuses",
+        })
+    }
+}
+
 impl Error for TapeError {}
+
+impl Error for PrintError {}

@@ -6,7 +6,7 @@ ghost use Rattle.setup.specs.Admission.{setup_check};
 ghost use Rattle.tape.specs.Prints.{Lists, FailsBy};
 ghost use Rattle.tape.specs.FourCells.{four_cells_setup, four_cells_lists};
 
-use crate::error::TapeError;
+use crate::error::PrintError;
 use crate::print::print_tape;
 use protocol::{Object, Policy};
 use rights::VectorOrder;
@@ -14,7 +14,7 @@ use std::alloc::Global;
 use stores::SliceStore;
 
 // The lines that daytape prints for a tape.
-pub fn lines_of_tape(heap: Global, tape: &[u8]) -> Result<Vec<u8>, TapeError>
+pub fn lines_of_tape(heap: Global, tape: &[u8]) -> Result<Vec<u8>, PrintError>
     ensures lines { IfOk result (λ lines. (evening : Store) × Lists four_cells_setup four_cells_lists evening tape.now lines.items) }
     ensures set_up_accepts { setup_check four_cells_setup.is_right four_cells_lists.cells four_cells_lists.rights four_cells_setup.policies ≡ answered tt }
     ensures fails { IfErr result (λ error. (evening : Store) × FailsBy four_cells_setup four_cells_lists evening tape.now error) }

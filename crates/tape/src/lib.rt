@@ -4,10 +4,11 @@
 mod error;
 mod four_cells;
 mod print;
+mod room;
 mod run;
 mod writing;
 
-pub use error::TapeError;
+pub use error::{PrintError, TapeError};
 pub use four_cells::lines_of_tape;
 pub use print::print_tape;
 pub use run::run_tape;

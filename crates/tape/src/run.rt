@@ -40,6 +40,7 @@ fn answer_all<C: Store, R: Store, O: RightsOrder>(
 }
 
 // Runs the tape on the two stores, and writes a line for each answer, and the line of the tape's fault. How long they are.
+#[tactic(auto, using(crate::proofs::Lengths::lines_bounded))]
 pub fn run_tape<C: Store, R: Store, O: RightsOrder>(
     heap: Global,
     tape: &[u8],
