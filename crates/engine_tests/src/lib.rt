@@ -6,6 +6,8 @@ mod check;
 #[cfg(test)]
 mod day_tests;
 #[cfg(test)]
+mod depot_tests;
+#[cfg(test)]
 mod limit_tests;
 #[cfg(test)]
 mod lock_tests;
