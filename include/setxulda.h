@@ -65,7 +65,7 @@ uint32_t setxulda_read_log(const uint8_t *log, size_t log_len, size_t count, siz
 /* Runs a tape as a day on cells and rights, which stand in the two lists and are changed in place. Each request up to the tape's end, or its first fault, is
  * answered by a line; a fault has a last line of its own.
  * Answers 0: the day was run, and its lines are the first *lines_used bytes of `lines`; later bytes stay.
- * Else *lines_used is 0, and the answer is the first of these that holds, but that SETXULDA_NO_MEMORY may come before 14, 15 and 16:
+ * Else *lines_used is 0, and the answer is the first of these that holds:
  *   17, 14, 15, 16  as of setxulda_check_setup
  *   SETXULDA_NO_MEMORY
  *       nothing was run, and neither list nor `lines` has changed

@@ -22,5 +22,5 @@ module _ (S : Setup) (before after : Store) (tape : List ℕ) where
 
   -- Why there are no lines
   abbrev pub FailsBy : PrintError → Type 0
-  FailsBy OutOfMemory = after ≡ before
+  FailsBy OutOfMemory = (setup_check S.is_right before.cells before.rights S.policies ≡ answered tt) × (after ≡ before)
   FailsBy (SetUp f) = (setup_check S.is_right before.cells before.rights S.policies ≡ refused (refusal_number f)) × (after ≡ before)

@@ -62,7 +62,7 @@ module _ (S : Setup) (before after : Store) (tape buffer buffer' : List ℕ) whe
 
   abbrev pub RunsTape : Result ℕ TapeError → Type 0
   RunsTape (Ok n) = Printed n
-  RunsTape (Err OutOfMemory) = Stays
+  RunsTape (Err OutOfMemory) = (setup_check S.is_right before.cells before.rights S.policies ≡ answered tt) × Stays
   RunsTape (Err (SetUp f)) = (setup_check S.is_right before.cells before.rights S.policies ≡ refused (refusal_number f)) × Stays
   RunsTape (Err (Lines f)) = Exceeds f
 

@@ -8,6 +8,7 @@ use crate::error::{PrintError, TapeError};
 use crate::run::run_tape;
 use protocol::Policy;
 use rights::RightsOrder;
+use setup::check_setup;
 use std::alloc::Global;
 use stores::Store;
 
@@ -27,6 +28,8 @@ pub fn print_tape<C: Store, R: Store, O: RightsOrder>(
     ensures fails { IfErr result (FailsBy (setup_with O.RightsOrder order.now policies.now) (lists_of C.Store R.Store cells.old rights.old) (lists_of C.Store R.Store cells.new rights.new) tape.now) }
     ensures lent { Lent C.Store R.Store cells.old rights.old cells.new rights.new }
 {
+    // As when it is run: what set-up refuses comes before want of memory.
+    check_setup(cells, rights, order, policies).map_err(PrintError::SetUp)?;
     let mut lines = vec![in heap; 0; ROOM]?;
     match run_tape(
         heap,

@@ -10,6 +10,7 @@ use day::run_day;
 use protocol::{Answer, Policy, Request};
 use records::read_tape;
 use rights::RightsOrder;
+use setup::check_setup;
 use std::alloc::Global;
 use stores::Store;
 
@@ -54,6 +55,8 @@ pub fn run_tape<C: Store, R: Store, O: RightsOrder>(
     ensures lent { Lent C.Store R.Store cells.old rights.old cells.new rights.new }
     ensures untouched { Untouched result ((cells.new ≡ cells.old) × (rights.new ≡ rights.old)) }
 {
+    // Asked first, so that what set-up refuses is never told as want of memory.
+    check_setup(cells, rights, order, policies).map_err(TapeError::SetUp)?;
     let read = read_tape(heap, tape)?;
     let requests = read.requests.as_slice();
     let answers = answer_all(heap, cells, rights, order, policies, requests)?;
