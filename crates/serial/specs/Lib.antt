@@ -6,4 +6,5 @@ pub mod Model
 pub mod Serial
 pub mod History
 pub mod Day
+pub mod Writes
 pub mod OneDay

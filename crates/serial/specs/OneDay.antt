@@ -8,6 +8,7 @@ use Rattle.serial.specs.Requests.{asks_call, asked}
 use Rattle.serial.specs.Model.{State, free, answer}
 use Rattle.serial.specs.Serial.{Replays, serial_store, SerialGrants}
 use Rattle.serial.specs.History.{Event, History, transcript, committed, Run, Admitted}
+use Rattle.serial.specs.Writes.{answers_from, state_after}
 use Rattle.serial.specs.Day.{Strikes, OpenIn, StruckIn, Restricts, Restricting, Deployers, NoDuplicate}
 
 -- The history with the events of some requests and their answers laid on it. Both lists have the oldest first, the history the newest.
@@ -81,6 +82,8 @@ pub record DayDone (S : Setup) (before after : Store) (requests : List Request) 
 -- to the other.
 pub record Worked (S : Setup) (σ : State) (requests : List Request) (answers : List Answer) (σ' : State) : Type 0 where
   pub all_answered : length answers ≡ length requests
+  pub answered_in_turn : answers ≡ answers_from S σ requests
+  pub leads_to : σ' ≡ state_after S σ requests
   pub goes_on : {σ₀ : State} {h : History} → Run S σ₀ h σ → Run S σ₀ (recorded requests answers h) σ'
 
 -- Whatever the order of rights, the policies and the lists in the morning, if set-up admits them, and whatever is asked
