@@ -1,5 +1,5 @@
 // A store on the caller's own buffer of numbers: that buffer is the list.
-ghost use Rattle.std.specs.Prelude.{◌≡◌, [], ◌∷◌};
+ghost use Rattle.std.specs.Prelude.{◌≡◌, [], ◌∷◌, slice_set};
 
 use crate::numbers::{read_number, write_number};
 use crate::store::Store;
@@ -23,6 +23,8 @@ impl Store for SliceStore<'_> {
     ghost list = { λ s. s.numbers.now };
 
     ghost lent = { λ s. s.numbers.ghost_name ∷ [] };
+
+    ghost written = { λ s at value after. after.numbers.now ≡ slice_set s.numbers.now at value };
 
     fn size(&self) -> usize {
         self.numbers.len()

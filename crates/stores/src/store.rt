@@ -12,6 +12,9 @@ pub trait Store {
     // The names of the memory that the store was lent. A write keeps them, so that the lender learns what its memory holds in the end.
     ghost lent: { Self → List ℕ };
 
+    // What a write makes of the store itself, with all that a list does not show: the store before, the position, the number, the store after.
+    ghost written: { Self → ℕ → ℕ → Self → Type 0 };
+
     fn size(&self) -> usize
         ensures { result ≡ length (list self.now) };
 
@@ -21,5 +24,6 @@ pub trait Store {
     fn write(&mut self, at: usize, value: u32) -> Result<(), Refusal>
         ensures answer { outcome result ≡ write_at (list self.old) at }
         ensures after { list self.new ≡ slice_set (list self.old) at value }
-        ensures kept { lent self.new ≡ lent self.old };
+        ensures kept { lent self.new ≡ lent self.old }
+        ensures itself { written self.old at value self.new };
 }

@@ -1,5 +1,5 @@
 // A store that owns its numbers, up to 64 of them.
-ghost use Rattle.std.specs.Prelude.{◌≡◌, []};
+ghost use Rattle.std.specs.Prelude.{◌≡◌, [], slice_set};
 ghost use Rattle.protocol.specs.Refusals.{outcome};
 ghost use Rattle.stores.specs.Lists.{table_check, table_of};
 
@@ -39,6 +39,8 @@ impl Store for TableStore {
     ghost list = { λ s. s.numbers.items };
 
     ghost lent = { λ _. [] };
+
+    ghost written = { λ s at value after. after.numbers.items ≡ slice_set s.numbers.items at value };
 
     fn size(&self) -> usize {
         self.numbers.len()
