@@ -5,3 +5,4 @@ pub mod Numbers
 pub mod Sizes
 pub mod Sound
 pub mod Places
+pub mod Written

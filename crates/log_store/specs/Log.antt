@@ -71,6 +71,15 @@ with_room n t = cond (nat_le (log_end n t + 9) (length t)) t (checkpoint n t)
 abbrev pub written : ℕ → List ℕ → ℕ → ℕ → List ℕ
 written n t at v = appended (with_room n t) (log_end n (with_room n t)) at v
 
+-- The bytes after a write; one past the last position is refused, and changes none.
+abbrev pub bytes_after : ℕ → List ℕ → ℕ → ℕ → List ℕ
+bytes_after n t at v = cond (nat_lt at n) (written n t at v) t
+
+-- The bytes after some writes, each a position and a number
+unfoldable pub bytes_after_all : ℕ → List ℕ → List (ℕ × ℕ) → List ℕ
+bytes_after_all n t [] = t
+bytes_after_all n t ((at, v) ∷ writes) = bytes_after_all n (bytes_after n t at v) writes
+
 -- At most 256 numbers, with bytes for them and for one place.
 abbrev pub fits : ℕ → List ℕ → Bool
 fits n t = nat_le n 256 && nat_le (4 * n + 9) (length t)

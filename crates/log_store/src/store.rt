@@ -2,7 +2,7 @@
 ghost use Rattle.std.specs.Prelude.{◌≡◌, true, if◌then◌else◌, length, slice_set, OnOk};
 ghost use Rattle.protocol.specs.Refusals.{outcome};
 ghost use Rattle.stores.specs.Lists.{write_at};
-ghost use Rattle.log_store.specs.Held.{bytes_after, bytes_of, lent_of, list_of};
+ghost use Rattle.log_store.specs.Held.{IsWritten, bytes_of, lent_of, list_of};
 ghost use Rattle.log_store.specs.Log.{format_bytes, format_check, holds_log, log_check, log_of, log_read};
 
 use crate::held::LogStore;
@@ -71,6 +71,8 @@ impl Store for LogStore<'_> {
 
     ghost lent = { lent_of };
 
+    ghost written = { IsWritten };
+
     #[tactic(auto, using(crate::proofs::LogLaws::length_log))]
     fn size(&self) -> usize {
         self.count
@@ -84,13 +86,13 @@ impl Store for LogStore<'_> {
         Ok(self.log().number(at))
     }
 
-    // It promises more than any store does: the exact bytes, and that where they held a log of its count, they still do.
+    // It promises more than any store does: that where the bytes held a log of its count, they still do.
     #[tactic(auto, using(crate::proofs::LogLaws::length_log))]
     fn write(&mut self, at: usize, value: u32) -> Result<(), Refusal>
         ensures answer { outcome result ≡ write_at (list_of self.old) at }
         ensures after { list_of self.new ≡ slice_set (list_of self.old) at value }
         ensures kept { lent_of self.new ≡ lent_of self.old }
-        ensures bytes { bytes_of self.new ≡ bytes_after self.old at value }
+        ensures itself { IsWritten self.old at value self.new }
         ensures sound { holds_log self.old.count (bytes_of self.old) ≡ true → holds_log self.new.count (bytes_of self.new) ≡ true }
     {
         if at >= self.count {

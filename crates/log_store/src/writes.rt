@@ -59,6 +59,7 @@ impl LogStore<'_> {
         ensures bytes { bytes_of self.new ≡ with_room self.old.count (bytes_of self.old) }
         ensures list { list_of self.new ≡ list_of self.old }
         ensures kept { lent_of self.new ≡ lent_of self.old }
+        ensures count { self.new.count ≡ self.old.count }
         ensures end { result ≡ log_end self.old.count (bytes_of self.new) }
         ensures free { result + 9 ≤ length (bytes_of self.new) }
     {
@@ -75,6 +76,7 @@ impl LogStore<'_> {
         ensures bytes { bytes_of self.new ≡ written self.old.count (bytes_of self.old) position value }
         ensures list { list_of self.new ≡ slice_set (list_of self.old) position value }
         ensures kept { lent_of self.new ≡ lent_of self.old }
+        ensures count { self.new.count ≡ self.old.count }
     {
         let end = self.make_room();
         append(self.bytes, end, position, value);

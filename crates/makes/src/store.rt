@@ -1,5 +1,5 @@
 // A store of any of the three makes.
-ghost use Rattle.makes.specs.Stores.{list_of, lent_of};
+ghost use Rattle.makes.specs.Stores.{IsWritten, list_of, lent_of};
 
 use log_store::LogStore;
 use protocol::Refusal;
@@ -16,6 +16,8 @@ impl Store for AnyStore<'_> {
     ghost list = { list_of };
 
     ghost lent = { lent_of };
+
+    ghost written = { IsWritten };
 
     fn size(&self) -> usize {
         match self {
