@@ -1,5 +1,5 @@
 // The calls of the engine. Each is one step of the machine.
-ghost use Rattle.std.specs.Prelude.{◌≡◌, ℕ};
+ghost use Rattle.std.specs.Prelude.{◌≡◌, ℕ, []};
 ghost use Rattle.protocol.specs.declared.request.Request.TheVariants.{Open, Deploy, Read, Write, Show, Set, Commit, GiveUp};
 ghost use Rattle.serial.specs.Model.{open_slot, with_slots, end, call_in, commit_in};
 ghost use Rattle.engine.specs.Tables.{OpenIn, NamedAt, asker_in, slots_in};
@@ -33,7 +33,7 @@ impl<C: Store, R: Store, O: RightsOrder> Engine<'_, '_, '_, C, R, O> {
     #[inline(always)]
     fn call_in(&mut self, asker: OpenSlot, call: Call) -> Result<u32, Denial>
         requires { OpenIn self.old.tables asker }
-        ensures { Goes C.Store R.Store O.RightsOrder self.old (answer_of result, self.new) (call_in (setup_of O.RightsOrder self.old) (state_of C.Store R.Store self.old) call (open_slot (asker_in self.old.tables asker))) }
+        ensures { Goes C.Store R.Store O.RightsOrder self.old (answer_of result, self.new) (call_in (setup_of O.RightsOrder self.old) (state_of C.Store R.Store self.old) call (open_slot (asker_in self.old.tables asker))) [] }
     {
         self.judge(asker, call)?;
         let lock = self.lock_for(call);
@@ -46,11 +46,11 @@ impl<C: Store, R: Store, O: RightsOrder> Engine<'_, '_, '_, C, R, O> {
     // All its changes go into the stores, and its locks are gone.
     fn commit_in(&mut self, asker: OpenSlot) -> Answer
         requires { OpenIn self.old.tables asker }
-        ensures { Goes C.Store R.Store O.RightsOrder self.old (result, self.new) (commit_in (state_of C.Store R.Store self.old) asker.id (open_slot (asker_in self.old.tables asker))) }
+        ensures { Goes C.Store R.Store O.RightsOrder self.old (result, self.new) (commit_in (state_of C.Store R.Store self.old) asker.id (open_slot (asker_in self.old.tables asker))) (asker_in self.old.tables asker).changes }
     {
         // The one copy of a workspace: the stores are written while nothing of the tables is lent.
         let work = self.tables.workspace(asker.slot);
-        store_all(self.cells, self.rights, self.size, &work);
+        store_all(self.cells, self.rights, &work);
         match self.tables.commit(asker) {
             Some(place) => Answer::Granted(place),
             None => unreachable(),
@@ -59,7 +59,7 @@ impl<C: Store, R: Store, O: RightsOrder> Engine<'_, '_, '_, C, R, O> {
 
     // The transaction in the slot ends without a commit.
     fn end(&mut self, slot: SlotIndex, answer: Answer) -> Answer
-        ensures { (t : ℕ) → NamedAt self.old.tables slot.at t → Goes C.Store R.Store O.RightsOrder self.old (result, self.new) (answer, with_slots (state_of C.Store R.Store self.old) (end t (slots_in self.old.tables))) }
+        ensures { (t : ℕ) → NamedAt self.old.tables slot.at t → Goes C.Store R.Store O.RightsOrder self.old (result, self.new) (answer, with_slots (state_of C.Store R.Store self.old) (end t (slots_in self.old.tables))) [] }
     {
         self.tables.end(slot);
         answer
