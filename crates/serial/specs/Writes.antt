@@ -6,7 +6,7 @@ use Rattle.protocol.specs.declared.policy.Object.{Object}
 use Rattle.protocol.specs.declared.policy.Object.TheVariants.{OfCell, OfPolicy}
 use Rattle.protocol.specs.declared.request.Request.{Request}
 use Rattle.serial.specs.Words.{Setup, Change}
-use Rattle.serial.specs.Requests.{Asked, asks_open, asks_call, asks_commit, asks_give_up, asked}
+use Rattle.serial.specs.Requests.{Asked, asks_commit, asked}
 use Rattle.serial.specs.Model.{State, Slot, free, open_slot, aborted_slot, find, changed, answer, after}
 use Rattle.serial.specs.Serial.{Entry, Transcript}
 use Rattle.serial.specs.History.{History, transcript, committed}
