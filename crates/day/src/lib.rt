@@ -2,7 +2,7 @@
 #![tactic(auto)]
 
 ghost use Rattle.std.specs.Prelude.{◌≡◌, OnErr};
-ghost use Rattle.engine.specs.Stores.{lists_of, Lent};
+ghost use Rattle.engine.specs.Stores.{lists_of, Lent, Wrote};
 ghost use Rattle.engine.specs.Beginning.{setup_with};
 ghost use Rattle.day.specs.Days.{RunsDay};
 
@@ -22,7 +22,7 @@ pub fn run_day<C: Store, R: Store, O: RightsOrder>(
     requests: &[Request],
     answers: &mut [Answer],
 ) -> Result<usize, Refusal>
-    ensures day { RunsDay (setup_with O.RightsOrder order.now policies.now) (lists_of C.Store R.Store cells.old rights.old) (lists_of C.Store R.Store cells.new rights.new) requests.now answers.old answers.new result }
+    ensures day { RunsDay (setup_with O.RightsOrder order.now policies.now) (lists_of C.Store R.Store cells.old rights.old) (lists_of C.Store R.Store cells.new rights.new) (Wrote C.Store R.Store cells.old rights.old cells.new rights.new) requests.now answers.old answers.new result }
     ensures lent { Lent C.Store R.Store cells.old rights.old cells.new rights.new }
     ensures untouched { OnErr result ((cells.new ≡ cells.old) × (rights.new ≡ rights.old)) }
 {

@@ -1,20 +1,34 @@
 -- What a transaction is asked for comes to in the machine, by how it stands.
-use Rattle.std.proofs.Common.{◌≡◌, ℕ, ◌⊎◌, inl, inr}
+use Rattle.std.proofs.Common.{◌≡◌, ℕ, ◌⊎◌, List, [], inl, inr, refl, ap}
 use Rattle.protocol.specs.declared.answer.Answer.{Answer}
 use Rattle.protocol.specs.declared.answer.Answer.TheVariants as answer
 use Rattle.stores.specs.declared.store.Store as store
 use Rattle.rights.specs.declared.order.RightsOrder as order
+use Rattle.protocol.specs.declared.refusal.Refusal.{Refusal}
 use Rattle.protocol.specs.declared.refusal.Refusal.TheVariants.{NoSuchTransaction}
-use Rattle.serial.specs.Words.{Setup, Call}
+use Rattle.serial.specs.Words.{Setup, Call, Change}
+use Rattle.serial.specs.Writes.{changes_by}
 use Rattle.serial.specs.Model.{State, Transaction as ModelTransaction, free, open_slot, aborted_slot, find, end, with_slots, call_in, commit_in, give_up_in, perform}
 use Rattle.engine.specs.declared.action.Action.{Action}
 use Rattle.engine.specs.declared.action.Action.TheVariants.{Calls, Commits, GivesUp}
 use Rattle.engine.specs.declared.engine.Engine.{Engine}
 use Rattle.engine.specs.Actions.{asks}
-use Rattle.engine.specs.Engines.{Goes}
+use Rattle.engine.specs.Engines.{Goes, state_of}
+use Rattle.engine.proofs.Writing.{wrote_none}
 
-pub goes_as : {C R O : Type 0} {c : store.Ghosts C} {r : store.Ghosts R} {o : order.Ghosts O} {before : Engine C R O} {came : Answer × Engine C R O} {to to' : Answer × State} → Goes c r o before came to → to ≡ to' → Goes c r o before came to'
-goes_as went same = rw (← same) went
+module _ {C R O : Type 0} {c : store.Ghosts C} {r : store.Ghosts R} {o : order.Ghosts O} where
+  pub goes_as : {before : Engine C R O} {came : Answer × Engine C R O} {to to' : Answer × State} {ks ks' : List Change}
+      → Goes c r o before came to ks → to ≡ to' → ks ≡ ks' → Goes c r o before came to' ks'
+  goes_as went same as_many = rw (← same, ← as_many) went
+
+  -- an engine that stays as it is
+  pub goes_nowhere : (e : Engine C R O) {a : Answer} {to : Answer × State} {ks : List Change} → (a, state_of c r e) ≡ to → [] ≡ ks → Goes c r o e (a, e) to ks
+  goes_nowhere e same none = rw (← none) (record {
+    answered = same;
+    same_setup = refl;
+    keeps_stores = record { same_cells = refl; same_rights = refl; lent = record { by_cells = refl; by_rights = refl }; as_many_cells = refl; as_many_rights = refl; same_size = refl };
+    writes = wrote_none c r _ _;
+  })
 
 module _ (S : Setup) (σ : State) (t : ℕ) where
   pub nobody_acts : (a : Action) → find t σ.slots ≡ free → (answer.Refused NoSuchTransaction, σ) ≡ perform S σ (asks t a)
@@ -43,3 +57,26 @@ module _ (S : Setup) (σ : State) (t : ℕ) where
   unfolding perform commit_in give_up_in
   ends_aborted b p a (inl is) e = rw (is, e)
   ends_aborted b p a (inr is) e = rw (is, e)
+
+  -- what each of them writes
+
+  pub refused_writes : (a : Action) (f : Refusal) → [] ≡ changes_by σ (asks t a) (answer.Refused f)
+  refused_writes (Calls c) f = refl
+  refused_writes Commits f = refl
+  refused_writes GivesUp f = refl
+
+  pub aborted_writes : (a : Action) (b p : ℕ) → [] ≡ changes_by σ (asks t a) (answer.Aborted b p)
+  aborted_writes (Calls c) b p = refl
+  aborted_writes Commits b p = refl
+  aborted_writes GivesUp b p = refl
+
+  pub call_writes : (a : Action) (c : Call) (z : Answer) → a ≡ Calls c → [] ≡ changes_by σ (asks t a) z
+  call_writes a c z is = rw is refl
+
+  pub give_up_writes : (a : Action) (z : Answer) → a ≡ GivesUp → [] ≡ changes_by σ (asks t a) z
+  give_up_writes a z is = rw is refl
+
+  pub commit_writes : (x : ModelTransaction) (a : Action) (z : Answer) (τ : State) → a ≡ Commits → find t σ.slots ≡ open_slot x
+      → (z, τ) ≡ commit_in σ x.number (open_slot x) → x.changes ≡ changes_by σ (asks t a) z
+  unfolding commit_in
+  commit_writes x a z τ is e went = rw (is, ap (λ y. y.0) went, e) refl

@@ -5,6 +5,7 @@ use Rattle.engine.specs.Tables.{asker_in}
 use Rattle.engine.specs.Engines.{store_of, state_of, setup_of}
 use Rattle.engine.proofs.Calls.{refused, granted, answer_same}
 use Rattle.engine.proofs.Stepping.{denied, state_granted}
+use Rattle.engine.proofs.Writing.{wrote_none}
 use Rattle.engine.proofs.engine.Engine.call_in.Goals as goal
 
 pub returns-in_err-judge : goal.returns-in_err-judge
@@ -16,6 +17,7 @@ returns-in_err-judge g c =
       answered = rw (p.1, p.2) (refused (setup_of g.O.RightsOrder e) σ (asker_in e.tables c.args.asker) c.args.call c.in_err-judge.field-0.0 c.in_err-judge.ensures);
       same_setup = refl;
       keeps_stores = search rules;
+      writes = wrote_none g.C.Store g.R.Store _ _;
     }
 
 pub returns-in_err-struck : goal.returns-in_err-struck
@@ -29,6 +31,7 @@ returns-in_err-struck g c =
           c.in_ok-judge.ensures c.lock_for-lock.ensures few e.few_policies c.in_err-struck.ensures);
       same_setup = refl;
       keeps_stores = search rules;
+      writes = wrote_none g.C.Store g.R.Store _ _;
     }
 
 pub returns : goal.returns
@@ -49,4 +52,5 @@ returns g c =
           (state_granted S s e.tables c.acquire.new.self c.note.new.self o lock struck got c.args.call fine (c.note.ensures got.still_open));
       same_setup = refl;
       keeps_stores = search rules;
+      writes = wrote_none g.C.Store g.R.Store _ _;
     }
