@@ -22,6 +22,7 @@ use Rattle.serial.specs.Changes.{stored, seen}
 use Rattle.serial.specs.Locks.{Lock, OnCell, OnPolicy, same_lock}
 use Rattle.serial.specs.Model.{Transaction, advance, judge, unless, is_subject, permitted, any_policy, lock_for, changed, call_answer, set_mode}
 use Rattle.serial.specs.Serial.{Entry, Transcript, Session, note_call, recall}
+use Rattle.serial.specs.Writes.{workspace}
 use Rattle.serial.proofs.Basics.{never, by_kind, same_object_eq}
 use Rattle.serial.proofs.Changes.{put_member, Once, SeesAlike, WritesAlike, once_put, sees_put, writes_put}
 use Rattle.serial.proofs.Replay.{Allowed, Grants, session, Follows}
@@ -219,7 +220,7 @@ module _ (S : Setup) (s : Store) (j : Transcript) (x : Transaction) (k : Fits S 
 
   pub advance_fits : (c : Call) (n : ℕ) → judge S s x c ≡ None
       → Fits S s (record { subject = j.subject; calls = record { call = c; answer = call_answer s x c n } ∷ j.calls }) (advance x (lock_for S s c) c)
-  unfolding advance session Follows
+  unfolding advance session Follows workspace
   advance_fits c n e = record {
     subject_fits = k.subject_fits;
     replays = (k.replays, grants_call S s j x k c n e);
@@ -227,6 +228,7 @@ module _ (S : Setup) (s : Store) (j : Transcript) (x : Transaction) (k : Fits S 
     changes_seen = seen_new c;
     changes_written = written_new c;
     changes_once = once_new c;
+    changes_by_calls = ap (changed c) k.changes_by_calls;
     locked = (locked_new c, locked_all_more x (lock_for S s c) c j.calls k.locked);
     changes_locked = changes_locked_new c e;
   }

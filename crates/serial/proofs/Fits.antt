@@ -18,6 +18,7 @@ use Rattle.serial.specs.Changes.{stored, apply}
 use Rattle.serial.specs.Locks.{Lock, OnCell, OnPolicy}
 use Rattle.serial.specs.Model.{Transaction}
 use Rattle.serial.specs.Serial.{Entry, Transcript, Session}
+use Rattle.serial.specs.Writes.{workspace}
 use Rattle.serial.proofs.Locks.{Coexist, write_read, no_and_no, restrict_deploy}
 use Rattle.serial.proofs.Changes.{apply_cases, Once, SeesAlike, WritesAlike}
 use Rattle.serial.proofs.Replay.{Allowed, Grants, session, Follows}
@@ -48,6 +49,7 @@ pub record Fits (S : Setup) (s : Store) (j : Transcript) (x : Transaction) : Typ
   pub changes_seen : SeesAlike (session j.subject j.calls).changes x.changes
   pub changes_written : WritesAlike (session j.subject j.calls).changes x.changes
   pub changes_once : Once x.changes
+  pub changes_by_calls : x.changes ≡ workspace j.calls
   pub locked : LockedAll x j.calls
   pub changes_locked : (k : Change) → Member k x.changes → ChangeLocked S s x k.object k.value
 
@@ -104,6 +106,7 @@ fits_frame S s s' j y f k = record {
   changes_seen = k.changes_seen;
   changes_written = k.changes_written;
   changes_once = k.changes_once;
+  changes_by_calls = k.changes_by_calls;
   locked = k.locked;
   changes_locked = λ c m. change_frame S y s s' c.object c.value f (k.changes_locked c m);
 }

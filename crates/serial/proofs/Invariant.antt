@@ -11,6 +11,7 @@ use Rattle.serial.specs.Locks.{Lock}
 use Rattle.serial.specs.Model.{Slot, free, open_slot, Transaction, find, verdict, is_signal, end, place, any_free, new_transaction, advance, judge, blocker, lock_for, call_answer}
 use Rattle.serial.specs.Serial.{Entry, Transcript, written, finish, recall, serial_store, SerialGrants}
 use Rattle.serial.specs.History.{opens, calls, transcript_with, no_transcript}
+use Rattle.serial.specs.Writes.{workspace}
 use Rattle.serial.proofs.Slots.{find_number, find_end_same, find_end_other, find_place_same, find_place_other}
 use Rattle.serial.proofs.Locks.{Coexist, verdict_ok, neither, unblocked}
 use Rattle.serial.proofs.Replay.{session, Follows, follows_replays, follows_executed}
@@ -100,7 +101,7 @@ module _ (S : Setup) (s₀ : Store) (transcripts : ℕ → Transcript) (ts : Lis
     transcripts_kept : (u : ℕ) → (u ≡ t → ⊥) → transcripts' u ≡ transcripts u
     transcripts_kept u d = grind (arith, nat_tests)
 
-    done_kept : (u : ℕ) → Member u ts → transcripts' u ≡ transcripts u
+    pub done_kept : (u : ℕ) → Member u ts → transcripts' u ≡ transcripts u
     done_kept u m = transcripts_kept u (free_other u (inv.done u m))
 
     caller_fits : Fits S s (transcripts' t) (advance x lock c)
@@ -198,7 +199,7 @@ module _ (S : Setup) (s₀ : Store) (transcripts : ℕ → Transcript) (ts : Lis
     transcript_new = grind (arith, nat_tests, inv.fresh (suc opened))
 
     new_fits : Fits S s (opened_transcripts (suc opened)) new
-    unfolding Follows session recall latest apply written
+    unfolding Follows session recall latest apply written workspace
     new_fits = rw transcript_new (record {
       subject_fits = refl;
       replays = tt;
@@ -206,6 +207,7 @@ module _ (S : Setup) (s₀ : Store) (transcripts : ℕ → Transcript) (ts : Lis
       changes_seen = λ o d. refl;
       changes_written = λ z. refl;
       changes_once = tt;
+      changes_by_calls = refl;
       locked = tt;
       changes_locked = λ k m. absurd m;
     })
@@ -213,7 +215,7 @@ module _ (S : Setup) (s₀ : Store) (transcripts : ℕ → Transcript) (ts : Lis
     done_below : (u : ℕ) → Member u ts → suc opened ≡ u → ⊥
     done_below u m q = let h = inv.done_known u m in omega arith
 
-    done_same : (u : ℕ) → Member u ts → opened_transcripts u ≡ transcripts u
+    pub done_same : (u : ℕ) → Member u ts → opened_transcripts u ≡ transcripts u
     done_same u m = transcript_other u (done_below u m)
 
     pub inv_open : Inv S s₀ (λ u. transcript_with (opens (suc opened) u₀) u (transcripts u)) ts s (place (new_transaction (suc opened) u₀) slots) (suc opened)

@@ -16,3 +16,4 @@ pub mod Struck
 pub mod Parts
 pub mod Main
 pub mod OneDay
+pub mod Writes

@@ -8,7 +8,7 @@ use Rattle.serial.specs.Requests.{asks_call, asked}
 use Rattle.serial.specs.Model.{State, free, answer}
 use Rattle.serial.specs.Serial.{Replays, serial_store, SerialGrants}
 use Rattle.serial.specs.History.{Event, History, transcript, committed, Run, Admitted}
-use Rattle.serial.specs.Writes.{answers_from, state_after}
+use Rattle.serial.specs.Writes.{answers_from, state_after, changes_from, day_changes}
 use Rattle.serial.specs.Day.{Strikes, OpenIn, StruckIn, Restricts, Restricting, Deployers, NoDuplicate}
 
 -- The history with the events of some requests and their answers laid on it. Both lists have the oldest first, the history the newest.
@@ -91,3 +91,10 @@ abbrev pub EveryDayIsDone : Type 0
 EveryDayIsDone = (S : Setup) → Laws S → (before : Store) → Admitted S (morning before)
     → (requests : List Request) (answers : List Answer) (evening : State) → Worked S (morning before) requests answers evening
     → DayDone S before evening.store requests answers
+
+-- And it writes the changes of its committed transactions, in the order of their commits.
+abbrev pub DayIsWritten : Type 0
+DayIsWritten = (S : Setup) → Laws S → (before : Store) → Admitted S (morning before)
+    → (requests : List Request) (answers : List Answer) (evening : State)
+    → Worked S (morning before) requests answers evening
+    → changes_from S (morning before) requests ≡ day_changes (history requests answers)

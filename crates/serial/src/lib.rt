@@ -3,7 +3,7 @@
 #![tactic(auto)]
 
 ghost use Rattle.serial.specs.Day.{DayIsSerial};
-ghost use Rattle.serial.specs.OneDay.{EveryDayIsDone};
+ghost use Rattle.serial.specs.OneDay.{EveryDayIsDone, DayIsWritten};
 
 pub fn day_is_serial()
     ensures { DayIsSerial }
@@ -12,4 +12,9 @@ pub fn day_is_serial()
 // The same of one worked day, by the lists before, the requests, their answers and the lists after.
 pub fn worked_day_is_serial()
     ensures { EveryDayIsDone }
+{}
+
+// What such a day writes, in its order.
+pub fn worked_day_is_written()
+    ensures { DayIsWritten }
 {}
