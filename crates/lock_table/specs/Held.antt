@@ -7,7 +7,7 @@ use Rattle.serial.specs.Model.{is_conflict, is_signal}
 use Rattle.locking.specs.declared.cell.CellRow.{CellRow}
 use Rattle.locking.specs.declared.policy.PolicyRow.{PolicyRow}
 use Rattle.lock_table.specs.Rows.{held_by}
-use Rattle.lock_table.specs.Lists.{on_one_row}
+use Rattle.lock_table.specs.Lists.{on_one_row, listed_of, listed_after}
 use Rattle.locking.specs.declared.slot_set.SlotSet.{SlotSet}
 use Rattle.lock_table.specs.declared.not_granted.NotGranted.{NotGranted}
 use Rattle.lock_table.specs.declared.not_granted.NotGranted.TheVariants.{Absent, Blocked}
@@ -43,7 +43,10 @@ module _ (holds : ℕ → Lock → Bool) (asked : Lock) (asker : ℕ) where
 
 -- What asking comes to; where there is no row, it is refused. To wait or to be refused is to leave all as it is.
 abbrev pub Asked : LockTable → Lock → ℕ → Result SlotSet NotGranted → LockTable → Type 0
-Asked t lock asker (Ok struck) t' = (has_row lock ≡ true) × Granted (held t) lock asker (held t') (has struck.mask)
+Asked t lock asker (Ok struck) t' =
+    (has_row lock ≡ true)
+    × Granted (held t) lock asker (held t') (has struck.mask)
+    × ((k : ℕ) → listed_of t'.lists k ≡ listed_after (listed_of t.lists) lock asker (held t asker lock) (has struck.mask) k)
 Asked t lock asker (Err (Blocked blocked)) t' = (has_row lock ≡ true) × Waits (conflicts (held t) lock asker) (has blocked.by.mask) × (t' ≡ t)
 Asked t lock asker (Err Absent) t' = (has_row lock ≡ false) × (t' ≡ t)
 

@@ -1,8 +1,8 @@
 // The locks that a slot was granted since its last release, so that the next has to look at their rows alone.
-ghost use Rattle.std.specs.Prelude.{◌≡◌, ◌<◌, true, false, ◌||◌, MatchOption};
+ghost use Rattle.std.specs.Prelude.{◌≡◌, ◌<◌, true, false, ◌||◌, [], Some, None, MatchOption};
 ghost use Rattle.std.specs.List.{list_any};
 ghost use Rattle.serial.specs.Locks.{Lock};
-ghost use Rattle.lock_table.specs.Lists.{on_one_row, may_hold};
+ghost use Rattle.lock_table.specs.Lists.{on_one_row, may_hold, locks_in, one_more};
 
 use locking::{CellMode, Lock};
 
@@ -15,7 +15,8 @@ pub(crate) struct LockList {
 
 impl LockList {
     pub(crate) fn new() -> LockList
-        ensures { (l : Lock) → may_hold result l ≡ false }
+        ensures rows { (l : Lock) → may_hold result l ≡ false }
+        ensures locks { locks_in result ≡ Some [] }
     {
         LockList {
             locks: [Lock::OnCell(CellMode::ReadCell, 0); 32],
@@ -25,13 +26,15 @@ impl LockList {
 
     // The locks, unless they were too many for the list.
     pub(crate) fn as_slice(&self) -> Option<&[Lock]>
-        ensures { MatchOption result (32 < self.now.count) (λ locks. (l : Lock) → may_hold self.now l ≡ list_any (on_one_row l) locks.now) }
+        ensures rows { MatchOption result (32 < self.now.count) (λ locks. (l : Lock) → may_hold self.now l ≡ list_any (on_one_row l) locks.now) }
+        ensures locks { MatchOption result (locks_in self.now ≡ None) (λ locks. locks_in self.now ≡ Some locks.now) }
     {
         self.locks.get(..self.count)
     }
 
     pub(crate) fn push(&mut self, lock: Lock)
-        ensures { (l : Lock) → (may_hold self.old l || on_one_row l lock) ≡ true → may_hold self.new l ≡ true }
+        ensures rows { (l : Lock) → (may_hold self.old l || on_one_row l lock) ≡ true → may_hold self.new l ≡ true }
+        ensures locks { locks_in self.new ≡ one_more lock (locks_in self.old) }
     {
         if self.count < self.locks.len() {
             self.locks[self.count] = lock;
@@ -40,7 +43,8 @@ impl LockList {
     }
 
     pub(crate) fn clear(&mut self)
-        ensures { (l : Lock) → may_hold self.new l ≡ false }
+        ensures rows { (l : Lock) → may_hold self.new l ≡ false }
+        ensures locks { locks_in self.new ≡ Some [] }
     {
         self.count = 0;
     }

@@ -22,7 +22,7 @@ abbrev ladder_permits : ℕ → Operation → Bool
 ladder_permits = permits_of ladder_right (ladder_allows 10 20 30)
 
 pub record ExamplesStand (answer : Bool) : Type 0 where
-  pub calls_agree_with_all_below : answer ≡ true
+  pub answer_is_yes : answer ≡ true
   pub vector_1_to_5_joins_to_5 : vector_join 1 5 ≡ 5
   pub vector_1_to_5_relaxes : vector_change 1 5 ≡ Relaxation
   pub vector_1_to_6_joins_to_7 : vector_join 1 6 ≡ 7

@@ -1,4 +1,5 @@
-// The worked examples: what the definitions come to, and that the calls answer so.
+// The worked examples, promised of the definitions. The calls are run at them too, for a test: what each answers is promised by its own
+// contract, over the same definitions.
 ghost use Rattle.std.specs.Prelude.{◌≡◌, true};
 ghost use Rattle.locking.specs.Examples.{ExamplesStand};
 
@@ -39,7 +40,7 @@ fn locks_agree() -> bool
         && PolicyRow::answer(PolicyMode::Relax, PolicyMode::Deploy) == LockAnswer::Conflict
 }
 
-// Whether the calls answer every example as it should be answered.
+// The promise is what the definitions come to at every example, and that the answer is yes: it says nothing of the calls that are run.
 pub fn examples_stand() -> bool
     ensures { ExamplesStand result }
 {

@@ -1,9 +1,9 @@
 // The calls of the table, promised by who holds which lock.
-ghost use Rattle.std.specs.Prelude.{◌≡◌, ℕ, ◌<◌, false, not, ◌&&◌, ◌==◌, OnErr, MatchOption, slice_index_or};
+ghost use Rattle.std.specs.Prelude.{◌≡◌, ℕ, ◌<◌, false, cond, not, ◌&&◌, ◌==◌, [], Some, None, OnOk, OnErr, MatchOption, slice_index_or};
 ghost use Rattle.locking.specs.Slots.{has};
 ghost use Rattle.serial.specs.Locks.{Lock};
 ghost use Rattle.lock_table.specs.Held.{held, Asked, AskedOnRow};
-ghost use Rattle.lock_table.specs.Lists.{no_list, Covers};
+ghost use Rattle.lock_table.specs.Lists.{no_list, Covers, listed_of, one_more};
 
 use super::LockTable;
 use crate::every_row::{ask_on_row, release_by};
@@ -14,7 +14,8 @@ use locking::{CellLocks, Lock, PolicyLocks, SlotIndex, SlotSet};
 
 impl LockTable {
     pub fn none() -> LockTable
-        ensures { (k : ℕ) (l : Lock) → held result k l ≡ false }
+        ensures locks { (k : ℕ) (l : Lock) → held result k l ≡ false }
+        ensures lists { (k : ℕ) → listed_of result.lists k ≡ Some [] }
     {
         let cell = CellLocks::none().to_row();
         let policy = PolicyLocks::none().to_row();
@@ -34,16 +35,19 @@ impl LockTable {
         }
     }
 
-    // Locks on whose rows all locks of the slot lie, so that a search need not ask every row. `None` where the slot was granted too many for its list.
+    // The locks that the slot was granted since its last release or strike, on whose rows all its locks lie, so that a search need not ask every
+    // row. `None` where they are more than 32.
     pub fn listed(&self, slot: SlotIndex) -> Option<&[Lock]>
-        ensures { MatchOption result (32 < (slice_index_or self.now.lists slot.at no_list).count) (λ locks. Covers locks.now (held self.now slot.at)) }
+        ensures covers { MatchOption result (32 < (slice_index_or self.now.lists slot.at no_list).count) (λ locks. Covers locks.now (held self.now slot.at)) }
+        ensures locks { MatchOption result (listed_of self.now.lists slot.at ≡ None) (λ locks. listed_of self.now.lists slot.at ≡ Some locks.now) }
     {
         self.lists[slot.get()].as_slice()
     }
 
     // The slot loses all its locks, and its list has none.
     fn release_slot(&mut self, slot: SlotIndex)
-        ensures { (k : ℕ) (l : Lock) → held self.new k l ≡ (held self.old k l && not (k == slot.at)) }
+        ensures locks { (k : ℕ) (l : Lock) → held self.new k l ≡ (held self.old k l && not (k == slot.at)) }
+        ensures lists { (k : ℕ) → listed_of self.new.lists k ≡ cond (k == slot.at) (Some []) (listed_of self.old.lists k) }
     {
         release_by(
             &mut self.cells,
@@ -54,9 +58,10 @@ impl LockTable {
         self.lists[slot.get()].clear();
     }
 
-    // The slots of the set lose all their locks.
+    // The slots of the set lose all their locks, and their lists have none.
     pub fn release(&mut self, gone: SlotSet)
-        ensures { (k : ℕ) (l : Lock) → held self.new k l ≡ (held self.old k l && not (has gone.mask k)) }
+        ensures locks { (k : ℕ) (l : Lock) → held self.new k l ≡ (held self.old k l && not (has gone.mask k)) }
+        ensures lists { (k : ℕ) → listed_of self.new.lists k ≡ cond (has gone.mask k) (Some []) (listed_of self.old.lists k) }
     {
         let mut rest = gone;
         while let Some(slot) = rest.pop_lowest() {
@@ -69,6 +74,8 @@ impl LockTable {
     fn ask_row(&mut self, slot: SlotIndex, lock: Lock) -> Result<SlotSet, NotGranted>
         ensures asked { AskedOnRow self.old.cells self.old.policies lock slot.at result self.new.cells self.new.policies }
         ensures stays { OnErr result (self.new ≡ self.old) }
+        ensures lists { OnOk result ((k : ℕ) →
+            listed_of self.new.lists k ≡ cond (k == slot.at) (one_more lock (listed_of self.old.lists k)) (listed_of self.old.lists k)) }
     {
         let struck = ask_on_row(&mut self.cells, &mut self.policies, slot, lock)?;
         self.lists[slot.get()].push(lock);

@@ -21,4 +21,4 @@ invariant_of-self-2-clause-slotted c = length-set c.args.self.now.lists c.get.re
 pub invariant_of-self-2-clause-listed : goal.invariant_of-self-2-clause-listed
 invariant_of-self-2-clause-listed c =
     let t = c.args.self.now in
-    listed_more t.cells c.ask_on_row.new.cells t.policies c.ask_on_row.new.policies t.lists c.args.lock c.args.slot.at _ c.in_ok-struck.ensures.asked.1 t.listed c.get.result c.push.new.self c.get.ensures (omega (arith, t.slotted, c.get.ensures)) c.push.ensures
+    listed_more t.cells c.ask_on_row.new.cells t.policies c.ask_on_row.new.policies t.lists c.args.lock c.args.slot.at _ c.in_ok-struck.ensures.asked.1 t.listed c.get.result c.push.new.self c.get.ensures (omega (arith, t.slotted, c.get.ensures)) c.push.ensures.rows

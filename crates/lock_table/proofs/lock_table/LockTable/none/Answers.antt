@@ -4,8 +4,8 @@ use Rattle.locking.specs.PolicyLocks.{policy_holds, PolicyCompatible}
 use Rattle.lock_table.proofs.Tables.{alike_fit, alike_held, alike_listed}
 use Rattle.lock_table.proofs.lock_table.LockTable.none.Goals as goal
 
-pub returns : goal.returns
-returns c =
+pub returns-clause-locks : goal.returns-clause-locks
+returns-clause-locks c =
     alike_held c.to_row-cell.result c.to_row-policy.result
     (λ m k. ap (λ row. cell_holds row m k) c.to_row-cell.ensures ∙ c.none.ensures m k) (λ m k. ap (λ row. policy_holds row m k) c.to_row-policy.ensures ∙ c.none-2.ensures m k)
 
