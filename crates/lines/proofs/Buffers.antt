@@ -1,9 +1,12 @@
 -- Bytes that were written to the front of a buffer, and bytes that exceed it.
-use Rattle.std.proofs.Common.{◌≡◌, ℕ, ◌-◌, ◌<◌, ◌≤◌, leb, List, ◌++◌, length, take, drop, sym, ap, ◌∙◌, ⊎_elim, arith}
+use Rattle.std.proofs.Common.{◌≡◌, ℕ, ◌-◌, ◌<◌, ◌≤◌, leb, List, ◌++◌, length, take, drop, sym, refl, ap, ◌∙◌, ⊎_elim, arith}
 use borrow.Rule.Slice.PartMut.{put_mid}
 use Rattle.std.proofs.lemmas.List.{append-nil, drop_all, length-drop}
 use Rattle.std.proofs.lemmas.Bool.{cond-true, cond-false, le-leb, lt-leb, leb-true, leb-false, cases_Bool}
-use Rattle.protocol.specs.Refusals.{answered, refused}
+use Rattle.std.specs.Prelude.{Ok, Err, Result}
+use Rattle.std.specs.Result.{IsOk}
+use Rattle.protocol.specs.Refusals.{answered, refused, outcome, refusal_number}
+use Rattle.protocol.specs.declared.refusal.Refusal.{Refusal}
 use Rattle.records.specs.Buffers.{put_answer, put_front}
 
 pub put : (bs buffer : List ℕ) → length bs ≤ length buffer → bs ++ drop (length bs) buffer ≡ put_front bs buffer
@@ -34,3 +37,8 @@ pub written_behind : (buffer : List ℕ) (i : ℕ) (bs : List ℕ) → put_mid i
 written_behind buffer i bs =
     let none = drop_all (length buffer - i) (drop i buffer) (omega (arith, length-drop i buffer)) in
     ap (λ xs. take i buffer ++ (bs ++ xs)) none ∙ ap (λ xs. take i buffer ++ xs) (append-nil bs)
+
+-- what is no longer than the buffer is written
+pub is_written : (r : Result ℕ Refusal) (bs xs buffer : List ℕ) → xs ≡ bs → outcome r ≡ put_answer xs buffer → length bs ≤ length buffer → IsOk r
+is_written (Ok n) bs xs buffer is e room = refl
+is_written (Err f) bs xs buffer is e room = absurd (omega (arith, ap length is, (exceeds_from xs buffer (refusal_number f) e).1))

@@ -1,5 +1,5 @@
 -- Lines of text: of an answer, and of answers one after another.
-use Rattle.std.specs.Prelude.{ℕ, ◌-◌, cond, List, [], ◌∷◌, ◌++◌, length, drop, codes, decimal, nat_le}
+use Rattle.std.specs.Prelude.{ℕ, List, [], ◌∷◌, ◌++◌, codes, decimal}
 use Rattle.protocol.specs.Refusals.{refusal_number}
 use Rattle.protocol.specs.declared.answer.Answer.{Answer}
 use Rattle.protocol.specs.declared.answer.Answer.TheVariants.{Granted, Refused, Wait, Aborted}
@@ -22,12 +22,3 @@ answer_line (Aborted by policy) = line (codes "S") (by ∷ policy ∷ [])
 unfoldable pub answer_lines : List Answer → List ℕ
 answer_lines [] = []
 answer_lines (answer ∷ more) = answer_line answer ++ answer_lines more
-
--- The lines that fit so many bytes: those before the first that does not.
-unfoldable pub fitting : ℕ → List Answer → List ℕ
-fitting room [] = []
-fitting room (answer ∷ more) = cond (nat_le (length (answer_line answer)) room) (answer_line answer ++ fitting (room - length (answer_line answer)) more) []
-
--- a buffer with those lines at its front: later bytes stay
-abbrev pub fitting_front : List Answer → List ℕ → List ℕ
-fitting_front answers buffer = fitting (length buffer) answers ++ drop (length (fitting (length buffer) answers)) buffer

@@ -1,5 +1,5 @@
 // Lines written to the front of the caller's buffer.
-ghost use Rattle.std.specs.Prelude.{◌≡◌, ◌+◌, ◌≤◌, [], ◌∷◌, length};
+ghost use Rattle.std.specs.Prelude.{◌≡◌, ◌+◌, ◌≤◌, [], ◌∷◌, length, IsOk};
 ghost use Rattle.protocol.specs.Refusals.{outcome};
 ghost use Rattle.records.specs.Buffers.{put_answer, put_front};
 ghost use Rattle.records.specs.Faults.{values_line};
@@ -43,10 +43,25 @@ fn write_line(letter: u8, numbers: &[u32], buffer: &mut [u8]) -> Result<usize, R
     Ok(len)
 }
 
-// Writes the line of an answer to the front of the buffer, and answers its length.
+// How long the line of an answer is.
+pub(crate) fn answer_len(answer: Answer) -> usize
+    ensures { result ≡ length (answer_line answer) }
+{
+    match answer {
+        Answer::Granted(number) => line_len(&[number]),
+        Answer::Refused(refusal) => line_len(&[u32::from(refusal.number())]),
+        Answer::Wait(transaction) => line_len(&[u32::from(transaction)]),
+        Answer::Aborted { by, policy } => line_len(&[u32::from(by), u32::from(policy)]),
+    }
+}
+
+/// Writes the line of an answer, at most 14 bytes, to the front of the buffer, and answers its length.
+/// Where it exceeds the buffer, it is refused, and nothing is written.
 pub fn write_answer_line(answer: Answer, buffer: &mut [u8]) -> Result<usize, Refusal>
     ensures answer { outcome result ≡ put_answer (answer_line answer) buffer.old }
     ensures after { buffer.new ≡ put_front (answer_line answer) buffer.old }
+    ensures short { length (answer_line answer) ≤ 14 }
+    ensures fits { 14 ≤ length buffer.old → IsOk result }
 {
     match answer {
         Answer::Granted(number) => write_line(b'G', &[number], buffer),
@@ -60,11 +75,14 @@ pub fn write_answer_line(answer: Answer, buffer: &mut [u8]) -> Result<usize, Ref
     }
 }
 
-// Writes the line of a tape's fault to the front of the buffer, and answers its length. A call of its own, since one for both would
-// make public what a line is made from.
+/// Writes the line of a tape's fault, at most 28 bytes, to the front of the buffer, and answers its length.
+/// Where it exceeds the buffer, it is refused, and nothing is written.
+// A call of its own, since one for both would make public what a line is made from.
 pub fn write_fault_line(values: FaultValues, buffer: &mut [u8]) -> Result<usize, Refusal>
     ensures answer { outcome result ≡ put_answer (values_line values) buffer.old }
     ensures after { buffer.new ≡ put_front (values_line values) buffer.old }
+    ensures short { length (values_line values) ≤ 28 }
+    ensures fits { 28 ≤ length buffer.old → IsOk result }
 {
     let FaultValues {
         fault,
