@@ -1,6 +1,6 @@
 -- What making the order and the stores of a set-up file comes to.
 use Rattle.std.specs.Prelude.{◌≡◌, ℕ, ◌+◌, ◌*◌, cond, ◌&&◌, List, length, nat_le}
-use Rattle.protocol.specs.Refusals.{Outcome, answered, refused}
+use Rattle.protocol.specs.Refusals.{Outcome, answered, refused, ◌then◌}
 use Rattle.protocol.specs.declared.policy.Policy.{Policy}
 use Rattle.rights.specs.Orders.{ladder_check, vector_right, vector_joined, vector_allows, ladder_right, ladder_joined, ladder_allows}
 use Rattle.stores.specs.Lists.{table_check}
@@ -53,12 +53,6 @@ day_setup file = setup_on file.order file.policies
 
 abbrev pub morning_lists : SetupContent → Store
 morning_lists file = record { cells = file.cells.numbers; rights = file.rights.numbers }
-
-infixr 5 ◌then◌
--- The first refusal of two checks
-abbrev pub ◌then◌ : Outcome (Unit {0}) → Outcome (Unit {0}) → Outcome (Unit {0})
-answered u then next = next
-refused n then next = refused n
 
 -- What making all of it comes to: the order, the cells, the rights, and then the set-up on them.
 abbrev pub making_check : SetupContent → Outcome (Unit {0})

@@ -58,17 +58,17 @@ module _ (S : Setup) (σ : State) (t : ℕ) where
   ends_aborted b p a (inl is) e = rw (is, e)
   ends_aborted b p a (inr is) e = rw (is, e)
 
-  -- what each of them writes
-
+-- What each of them writes
+module _ (σ : State) (t : ℕ) where
   pub refused_writes : (a : Action) (f : Refusal) → [] ≡ changes_by σ (asks t a) (answer.Refused f)
   refused_writes (Calls c) f = refl
   refused_writes Commits f = refl
   refused_writes GivesUp f = refl
 
-  pub aborted_writes : (a : Action) (b p : ℕ) → [] ≡ changes_by σ (asks t a) (answer.Aborted b p)
-  aborted_writes (Calls c) b p = refl
-  aborted_writes Commits b p = refl
-  aborted_writes GivesUp b p = refl
+  pub aborted_writes : (a : Action) (b p : ℕ) (z : Answer) → z ≡ answer.Aborted b p → [] ≡ changes_by σ (asks t a) z
+  aborted_writes (Calls c) b p z is = refl
+  aborted_writes Commits b p z is = rw is refl
+  aborted_writes GivesUp b p z is = refl
 
   pub call_writes : (a : Action) (c : Call) (z : Answer) → a ≡ Calls c → [] ≡ changes_by σ (asks t a) z
   call_writes a c z is = rw is refl
@@ -76,7 +76,7 @@ module _ (S : Setup) (σ : State) (t : ℕ) where
   pub give_up_writes : (a : Action) (z : Answer) → a ≡ GivesUp → [] ≡ changes_by σ (asks t a) z
   give_up_writes a z is = rw is refl
 
-  pub commit_writes : (x : ModelTransaction) (a : Action) (z : Answer) (τ : State) → a ≡ Commits → find t σ.slots ≡ open_slot x
-      → (z, τ) ≡ commit_in σ x.number (open_slot x) → x.changes ≡ changes_by σ (asks t a) z
+  pub commit_writes : (x : ModelTransaction) (a : Action) (n : ℕ) (z : Answer) (τ : State) → a ≡ Commits → find t σ.slots ≡ open_slot x
+      → (z, τ) ≡ commit_in σ n (open_slot x) → x.changes ≡ changes_by σ (asks t a) z
   unfolding commit_in
-  commit_writes x a z τ is e went = rw (is, ap (λ y. y.0) went, e) refl
+  commit_writes x a n z τ is e went = rw (is, ap (λ (y : Answer × State). y.0) went, e) refl

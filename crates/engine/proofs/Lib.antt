@@ -4,6 +4,8 @@ pub mod Strikes
 pub mod Views
 pub mod Applying
 pub mod Writing
+pub mod Working
+pub mod Slices
 pub mod Calls
 pub mod Stepping
 pub mod Acting

@@ -41,13 +41,13 @@ module _ {C R : Type 0} (c : store.Ghosts C) (r : store.Ghosts R) where
   unfolding Written to_cells to_rights
   wrote_none cells rights = record { into_cells = refl; into_rights = refl }
 
-  pub wrote_cell : (cells cells' : C) (rights : R) (at v : ℕ) → c.written cells at v cells' → Wrote c r cells rights cells' rights (record { object = OfCell at; value = v } ∷ [])
+  pub wrote_cell : (cells cells' : C) (rights : R) (k : Change) (at : ℕ) → k.object ≡ OfCell at → c.written cells at k.value cells' → Wrote c r cells rights cells' rights (k ∷ [])
   unfolding Written to_cells to_rights
-  wrote_cell cells cells' rights at v w = record { into_cells = written_one c cells cells' at v w; into_rights = refl }
+  wrote_cell cells cells' rights k at is w = rw is (record { into_cells = written_one c cells cells' at k.value w; into_rights = refl })
 
-  pub wrote_right : (cells : C) (rights rights' : R) (at v : ℕ) → r.written rights at v rights' → Wrote c r cells rights cells rights' (record { object = OfPolicy at; value = v } ∷ [])
+  pub wrote_right : (cells : C) (rights rights' : R) (k : Change) (at : ℕ) → k.object ≡ OfPolicy at → r.written rights at k.value rights' → Wrote c r cells rights cells rights' (k ∷ [])
   unfolding Written to_cells to_rights
-  wrote_right cells rights rights' at v w = record { into_cells = refl; into_rights = written_one r rights rights' at v w }
+  wrote_right cells rights rights' k at is w = rw is (record { into_cells = refl; into_rights = written_one r rights rights' at k.value w })
 
   pub wrote_both : (ks ls : List Change) (cells cells' cells'' : C) (rights rights' rights'' : R)
       → Wrote c r cells rights cells' rights' ks → Wrote c r cells' rights' cells'' rights'' ls → Wrote c r cells rights cells'' rights'' (ks ++ ls)

@@ -10,7 +10,8 @@ use Rattle.serial.specs.Words as words
 use Rattle.serial.specs.Words.{Setup, Store, Change}
 use Rattle.serial.specs.Requests.{Asked, asked}
 use Rattle.serial.specs.Model.{State, perform}
-use Rattle.serial.specs.Writes.{changes_by}
+use Rattle.serial.specs.OneDay.{Worked}
+use Rattle.serial.specs.Writes.{changes_by, changes_from}
 use Rattle.engine.specs.declared.engine.Engine.{Engine}
 use Rattle.engine.specs.Stores.{lists_of, first_cells, Lent, Wrote}
 use Rattle.engine.specs.Tables.{table_state}
@@ -59,3 +60,12 @@ module _ {C R O : Type 0} where
   -- A request is one step of the machine.
   abbrev pub Steps : store.Ghosts C → store.Ghosts R → order.Ghosts O → Engine C R O → Request → Answer → Engine C R O → Type 0
   Steps c r o before request answer after = Performs c r o before (asked request) answer after
+
+  -- The requests were made in turn, with these answers: every run of the machine that led to the engine before leads on over them to the engine
+  -- after, and what their commits wrote went into the stores.
+  pub record Works (c : store.Ghosts C) (r : store.Ghosts R) (o : order.Ghosts O) (before : Engine C R O) (requests : List Request)
+      (answers : List Answer) (after : Engine C R O) : Type 0 where
+    pub worked : Worked (setup_of o before) (state_of c r before) requests answers (state_of c r after)
+    pub same_setup : setup_of o after ≡ setup_of o before
+    pub keeps_stores : Keeps c r before after
+    pub writes : Writes c r before after (changes_from (setup_of o before) (state_of c r before) requests)

@@ -30,3 +30,9 @@ outcome_by number (Err e) = refused (number e)
 
 abbrev pub outcome : {A : Type 0} → Result A Refusal → Outcome A
 outcome r = outcome_by refusal_number r
+
+infixr 5 ◌then◌
+-- The first refusal of two checks
+abbrev pub ◌then◌ : {A : Type 0} → Outcome (Unit {0}) → Outcome A → Outcome A
+answered u then next = next
+refused n then next = refused n

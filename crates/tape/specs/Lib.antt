@@ -1,4 +1,3 @@
 pub mod FourCells
-pub mod Messages
-pub mod Prints
+pub mod Records
 pub mod Runs

@@ -87,7 +87,6 @@ impl<C: Store, R: Store, O: RightsOrder> Engine<'_, '_, '_, C, R, O> {
         }
     }
 
-    #[tactic(auto, unfolding(serial::specs::Model::perform))]
     pub fn open(&mut self, subject: u16) -> Answer
         ensures { Steps C.Store R.Store O.RightsOrder self.old (Open subject) result self.new }
     {

@@ -1,10 +1,8 @@
 // An engine is made, and works whole lists of requests.
 ghost use Rattle.std.specs.Prelude.{◌≡◌, min, length, take, drop};
-ghost use Rattle.serial.specs.OneDay.{Worked};
-ghost use Rattle.serial.specs.Writes.{changes_from};
 ghost use Rattle.setup.specs.Admission.{setup_check};
 ghost use Rattle.engine.specs.Stores.{lists_of};
-ghost use Rattle.engine.specs.Engines.{state_of, setup_of, Keeps, Writes, Steps};
+ghost use Rattle.engine.specs.Engines.{state_of, setup_of, Works, Steps};
 ghost use Rattle.engine.specs.Beginning.{setup_with, begin_state, begin_policies};
 
 use super::Engine;
@@ -84,11 +82,8 @@ impl<'a, 'o, 'p, C: Store, R: Store, O: RightsOrder> Engine<'a, 'o, 'p, C, R, O>
     // engine as it was goes on to the engine as it is then. Places for answers are lent, since the engine has no heap to put them in.
     pub fn work(&mut self, requests: &[Request], answers: &mut [Answer]) -> usize
         ensures count { result ≡ min (length requests.now) (length answers.old) }
-        ensures worked { Worked (setup_of O.RightsOrder self.old) (state_of C.Store R.Store self.old) (take result requests.now) (take result answers.new) (state_of C.Store R.Store self.new) }
+        ensures works { Works C.Store R.Store O.RightsOrder self.old (take result requests.now) (take result answers.new) self.new }
         ensures other_answers { drop result answers.new ≡ drop result answers.old }
-        ensures same_setup { setup_of O.RightsOrder self.new ≡ setup_of O.RightsOrder self.old }
-        ensures keeps_stores { Keeps C.Store R.Store self.old self.new }
-        ensures writes { Writes C.Store R.Store self.old self.new (changes_from (setup_of O.RightsOrder self.old) (state_of C.Store R.Store self.old) (take result requests.now)) }
     {
         let count = requests.len().min(answers.len());
         // By place: of answers written through `iter_mut` and `zip` a proof knows nothing in the end.

@@ -1,15 +1,17 @@
-use Rattle.std.proofs.Common.{◌<◌, ◌++◌, [], ◌∷◌, length, get_or, take, sym, subst, ◌∙◌, rules}
+use Rattle.std.proofs.Common.{◌<◌, ◌++◌, [], ◌∷◌, length, get_or, take, refl, rules}
 use Rattle.std.proofs.lemmas.List.{take_more, take_all}
 use Rattle.protocol.specs.declared.policy.Object.TheVariants.{OfCell}
 use Rattle.workspace.specs.Workspaces.{changes_of}
 use Rattle.serial.specs.Words.{Change}
-use Rattle.engine.specs.Stores.{Wrote}
 use Rattle.engine.proofs.Applying.{apply_more, apply_all}
-use Rattle.engine.proofs.Writing.{wrote_both}
+use Rattle.engine.proofs.Writing.{wrote_none, wrote_both}
 use Rattle.engine.proofs.apply.store_all.Goals as goal
 
 abbrev nothing : Change
 nothing = record { object = OfCell 0; value = 0 }
+
+pub loop-change-init : goal.loop-change-init
+loop-change-init g c = (refl, record { by_cells = refl; by_rights = refl }, wrote_none g.C.Store g.R.Store _ _)
 
 pub loop-change-preserved : goal.loop-change-preserved
 loop-change-preserved g c =

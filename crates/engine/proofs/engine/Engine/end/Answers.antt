@@ -1,0 +1,8 @@
+use Rattle.std.proofs.Common.{refl, rules}
+use Rattle.engine.proofs.Writing.{wrote_none}
+use Rattle.engine.proofs.engine.Engine.end.Goals as goal
+
+pub returns : goal.returns
+returns g c = λ t named.
+    let ends = c.end.ensures.ends t named in
+    record { answered = rw (ends, c.end.ensures.counts) refl; same_setup = refl; keeps_stores = search rules; writes = wrote_none g.C.Store g.R.Store _ _ }
