@@ -3,3 +3,4 @@ pub mod Contents
 pub mod Fields
 pub mod Records
 pub mod Tapes
+pub mod Whole

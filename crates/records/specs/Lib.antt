@@ -1,5 +1,6 @@
 pub mod Buffers
 pub mod Faults
+pub mod Readers
 pub mod Records
 pub mod Tags
 pub mod Tapes

@@ -11,9 +11,16 @@ pub record TapeReading : Type 0 where
   pub requests : List Request
   pub fault : Option FaultValues
 
+-- no request more
+abbrev pub at_end : TapeReading
+at_end = record { requests = []; fault = None }
+
 -- a fault at once
+abbrev pub at_fault : FaultValues → TapeReading
+at_fault fault = record { requests = []; fault = Some fault }
+
 abbrev pub stopped : ℕ → ℕ → ℕ → TapeReading
-stopped fault number start = record { requests = []; fault = Some (record { fault = fault; number = number; start = start }) }
+stopped fault number start = at_fault (record { fault = fault; number = number; start = start })
 
 -- one request before the others
 abbrev pub behind : Request → TapeReading → TapeReading
@@ -26,8 +33,8 @@ go_on (refused fault) more stop = stop fault
 
 -- Record by record, at most so many of them: of a total of bytes these are left, and the record of that number begins them.
 unfoldable pub records_from : ℕ → ℕ → ℕ → List ℕ → TapeReading
-records_from zero total number left = record { requests = []; fault = None }
-records_from (suc most) total number [] = record { requests = []; fault = None }
+records_from zero total number left = at_end
+records_from (suc most) total number [] = at_end
 records_from (suc most) total number (b ∷ bs) = go_on (record_of (b ∷ bs)) (records_from most total (number + 1)) (λ fault. stopped fault number (total - length (b ∷ bs)))
 
 -- A record has bytes, so there are at most as many records as bytes.

@@ -3,10 +3,12 @@
 
 mod fault;
 mod field;
+mod reader;
 mod record;
 mod tag;
 mod tape;
 
 pub use fault::{FaultValues, FieldFault, Placed, RecordFault, TapeFault};
+pub use reader::TapeReader;
 pub use record::{read_record, record_len, write_record};
-pub use tape::{Tape, read_tape};
+pub use tape::{Tape, read_tape, tape_fault};

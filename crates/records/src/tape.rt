@@ -1,17 +1,15 @@
 // A tape: the records of requests, one after another.
-ghost use Rattle.std.specs.Prelude.{◌≡◌, ◌++◌, IfOk, IfErr, MatchResult};
+ghost use Rattle.std.specs.Prelude.{◌≡◌, ◌≤◌, length, IfOk, OnErr};
 ghost use Rattle.std.specs.Option.{option_map};
 ghost use Rattle.records.specs.Faults.{fault_values};
-ghost use Rattle.records.specs.Records.{record_bytes, record_of};
-ghost use Rattle.protocol.specs.Refusals.{answered, refused};
-ghost use Rattle.records.specs.Tapes.{ReadsTape};
+ghost use Rattle.records.specs.Tapes.{tape_of, ReadsTape};
 
-use crate::fault::{FaultValues, Placed, TapeFault};
-use crate::record::read_record;
+use crate::fault::{FaultValues, TapeFault};
+use crate::reader::TapeReader;
 use protocol::Request;
 use std::alloc::{AllocError, Global};
 
-// The requests of a tape, in order, up to its end or up to its first fault.
+/// The requests of a tape, in order, up to its end or up to its first fault.
 #[derive(Drop)]
 pub struct Tape {
     pub requests: Vec<Request>,
@@ -19,6 +17,7 @@ pub struct Tape {
 }
 
 impl Tape {
+    /// The fault in numbers, as a line prints it.
     pub fn fault_values(&self) -> Option<FaultValues>
         ensures { result ≡ option_map fault_values self.now.fault }
     {
@@ -26,52 +25,52 @@ impl Tape {
     }
 }
 
-// The request at the front of what is left of a tape, and what is left behind it.
-fn next_request(left: &[u8], number: u32, start: u32) -> Result<(Request, &[u8]), TapeFault>
-    ensures reads { MatchResult result (λ p. record_of left.now ≡ answered (p.0, p.1.now)) (λ e. record_of left.now ≡ refused (fault_values e).fault) }
-    ensures places { IfErr result (λ e. ((fault_values e).number ≡ number) × ((fault_values e).start ≡ start)) }
-    ensures one_record { IfOk result (λ p. left.now ≡ record_bytes p.0 ++ p.1.now) }
+/// The first fault of a tape, if it has one. It takes no memory.
+pub fn tape_fault(bytes: &[u8]) -> Option<TapeFault>
+    ensures { option_map fault_values result ≡ (tape_of bytes.now).fault }
 {
-    let next = read_record(left).map_err(|fault| Placed {
-        fault,
-        number,
-        start,
-    })?;
-    Ok(next)
+    let mut reader = match TapeReader::new(bytes) {
+        Ok(reader) => reader,
+        Err(fault) => return Some(fault),
+    };
+    loop {
+        match reader.next_request() {
+            Ok(Some(_)) => (),
+            Ok(None) => return None,
+            Err(fault) => return Some(fault),
+        }
+    }
 }
 
 // A record has at least five bytes: its tag, the length of its content, and one number.
 const SHORTEST: usize = 5;
 
-// Reads a tape of at most 60,000 bytes.
+/// Reads a whole tape. One of more than 60,000 bytes has no requests and fault 13, and takes no memory.
 pub fn read_tape(heap: Global, bytes: &[u8]) -> Result<Tape, AllocError>
-    ensures { IfOk result (λ t. ReadsTape bytes.now (record { requests = t.requests.items; fault = option_map fault_values t.fault })) }
+    ensures reads { IfOk result (λ t.
+        ReadsTape bytes.now (record { requests = t.requests.items; fault = option_map fault_values t.fault })) }
+    ensures wants { OnErr result (length bytes.now ≤ 60000) }
 {
-    if bytes.len() > 60_000 {
-        return Ok(Tape {
+    let mut reader = match TapeReader::new(bytes) {
+        Ok(reader) => reader,
+        Err(fault) => return Ok(Tape {
             requests: Vec::new(heap),
-            fault: Some(TapeFault::TooLong),
-        });
-    }
+            fault: Some(fault),
+        }),
+    };
     // Room for as many records as there can be, so that it need not grow.
     let mut requests = Vec::with_capacity(heap, bytes.len() / SHORTEST)?;
-    let mut left = bytes;
-    while !left.is_empty() {
-        let number = requests.len() as u32 + 1;
-        let start = (bytes.len() - left.len()) as u32;
-        match next_request(left, number, start) {
-            Ok((request, rest)) => {
-                requests.push(request)?;
-                left = rest;
-            }
+    loop {
+        match reader.next_request() {
+            Ok(Some(request)) => requests.push(request)?,
+            Ok(None) => return Ok(Tape {
+                requests,
+                fault: None,
+            }),
             Err(fault) => return Ok(Tape {
                 requests,
                 fault: Some(fault),
             }),
         }
     }
-    Ok(Tape {
-        requests,
-        fault: None,
-    })
 }

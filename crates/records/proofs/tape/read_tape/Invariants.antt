@@ -1,9 +1,11 @@
-use Rattle.std.proofs.Common.{length, vec_items, vec_len}
-use Rattle.records.proofs.Tapes.{Read_to}
+use Rattle.std.proofs.Common.{◌≡◌, vec_items}
+use Rattle.records.specs.Readers.{pending, left_of}
+use Rattle.records.specs.Tapes.{tape_of}
+use Rattle.records.proofs.Tapes.{ahead}
 use Rattle.records.proofs.tape.read_tape.Given as goal
 
-abbrev pub invariant-loop-left : goal.invariant-loop-left
-invariant-loop-left l = Read_to l.bytes (vec_items l.requests) (vec_len l.requests) l.left
+abbrev pub invariant-loop-request : goal.invariant-loop-request
+invariant-loop-request l = ahead (vec_items l.requests) (pending l.reader) ≡ tape_of l.bytes
 
-abbrev pub decreases-loop-left : goal.decreases-loop-left
-decreases-loop-left l = length l.left
+abbrev pub decreases-loop-request : goal.decreases-loop-request
+decreases-loop-request l = left_of l.reader
