@@ -1,12 +1,24 @@
 use Rattle.std.proofs.Common.{◌≡◌, take, sym, refl, ap, ◌∙◌, ap₂, rules}
+use Rattle.std.proofs.lemmas.Result.{err_from_is_err_and}
 use Rattle.serial.specs.Words.{Laws}
 use Rattle.serial.specs.OneDay.{morning}
 use Rattle.serial.proofs.Laws.{setup_laws}
 use Rattle.engine.specs.Stores.{lists_of}
 use Rattle.engine.specs.Engines.{state_of, setup_of}
 use Rattle.engine.specs.Beginning.{setup_with, begin_state, begin_policies}
+use Rattle.engine.proofs.Writing.{wrote_none}
 use Rattle.day.proofs.Whole.{day_of, day_wrote, day_back, wrote_back}
 use Rattle.day.proofs.run_day.Goals as goal
+
+pub returns-in_err-check_setup-clause-day : goal.returns-in_err-check_setup-clause-day
+returns-in_err-check_setup-clause-day g c =
+    let p = err_from_is_err_and c.from_residual.result c.from_residual.ensures.1 in
+    rw (p.1, p.2) (record {
+      set_up_refuses = sym c.in_err-check_setup.ensures.answer;
+      stores_stay = search rules;
+      nothing_written = wrote_none g.C.Store g.R.Store _ _;
+      answers_stay = search rules;
+    })
 
 pub returns-clause-day : goal.returns-clause-day
 returns-clause-day g c =
