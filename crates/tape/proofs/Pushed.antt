@@ -16,7 +16,8 @@ pushed line buffer part last end n is told written =
     let f = fits_from line part n told in
     written_behind buffer end last
     ∙ ap (λ xs. take end buffer ++ xs)
-        (written ∙ sym (put line part f.1) ∙ ap (λ xs. line ++ xs) (ap₂ drop (sym f.0) is ∙ drop-drop n end buffer))
+    (written ∙ sym (put line part f.1) ∙ ap (λ xs. line ++ xs) (ap₂ drop (sym f.0) is ∙ drop-drop n end buffer))
+    ∙ sym (append_assoc (take end buffer) line (drop (end + n) buffer))
 
 -- one answer's line more
 lines_push : (answers : List Answer) (a : Answer) → answer_lines (answers ++ a ∷ []) ≡ answer_lines answers ++ answer_line a
@@ -37,17 +38,16 @@ pub front_more : {lines whole buffer : List ℕ} {end : ℕ} → Front lines who
 front_more {lines} {whole} {buffer} {end} f line last to ends written =
     let front : take end buffer ≡ lines = ap (take end) f.text ∙ take_at lines (drop end whole) end (sym f.size) in
     let later : drop to buffer ≡ drop to whole =
-        ap (λ n. drop n buffer) ends
-        ∙ sym (drop-drop (length line) end buffer)
-        ∙ ap (drop (length line)) (ap (drop end) f.text ∙ drop_at lines (drop end whole) end (sym f.size))
-        ∙ drop-drop (length line) end whole
-        ∙ ap (λ n. drop n whole) (sym ends) in
+    ap (λ n. drop n buffer) ends
+    ∙ sym (drop-drop (length line) end buffer)
+    ∙ ap (drop (length line)) (ap (drop end) f.text ∙ drop_at lines (drop end whole) end (sym f.size))
+    ∙ drop-drop (length line) end whole
+    ∙ ap (λ n. drop n whole) (sym ends) in
     record {
       size = omega (arith, ends, f.size, length-append lines line);
-      text = written ∙ ap₂ (λ xs ys. xs ++ (line ++ ys)) front later ∙ sym (append_assoc lines line (drop to whole));
+      text = written ∙ ap₂ (λ xs ys. xs ++ line ++ ys) front later;
     }
 
-pub front_answer : {whole buffer : List ℕ} {end : ℕ} {answers : List Answer} → Front (answer_lines answers) whole end buffer → (a : Answer) (last : List ℕ) (to : ℕ)
+pub front_answer : {whole buffer : List ℕ} {end : ℕ} (answers : List Answer) → Front (answer_lines answers) whole end buffer → (a : Answer) (last : List ℕ) (to : ℕ)
     → to ≡ end + length (answer_line a) → last ≡ take end buffer ++ answer_line a ++ drop to buffer → Front (answer_lines (answers ++ a ∷ [])) whole to last
-front_answer {whole} {answers = answers} f a last to ends written =
-    rw (lines_push answers a) (front_more f (answer_line a) last to ends written)
+front_answer answers f a last to ends written = rw (lines_push answers a) (front_more f (answer_line a) last to ends written)

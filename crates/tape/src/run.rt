@@ -42,8 +42,8 @@ fn run_records<C: Store, R: Store, O: RightsOrder>(
     buffer: &mut [u8],
 ) -> usize
     requires { 14 * (left_of reader / 5) + 28 ≤ length buffer.old }
-    ensures ran { RanRecords C.Store R.Store O.RightsOrder engine.old engine.new (pending reader) buffer.old buffer.new result }
-    ensures short { result ≤ 14 * (left_of reader / 5) + 28 }
+    ensures ran { RanRecords C.Store R.Store O.RightsOrder engine.old engine.new (pending reader.entry) buffer.old buffer.new result }
+    ensures short { result ≤ 14 * (left_of reader.entry / 5) + 28 }
 {
     let mut end = 0;
     loop {
