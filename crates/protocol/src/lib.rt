@@ -13,3 +13,4 @@ pub use call::Call;
 pub use policy::{Change, Object, Policy};
 pub use refusal::Refusal;
 pub use request::{Request, TransactionId};
+pub use words::decimal_text;

@@ -88,7 +88,7 @@ fn request_of(tag: u8, content: &[u8]) -> Result<Request, RecordFault>
     }
 }
 
-// The request at the front of the bytes, and the bytes behind its record.
+/// The request at the front of the bytes, and the bytes behind its record; or why it cannot be read.
 pub fn read_record(bytes: &[u8]) -> Result<(Request, &[u8]), RecordFault>
     ensures reads { MatchResult result (λ p. record_of bytes.now ≡ answered (p.0, p.1.now)) (λ e. record_of bytes.now ≡ refused (record_number e)) }
     ensures one_record { IfOk result (λ p. bytes.now ≡ record_bytes p.0 ++ p.1.now) }
@@ -114,7 +114,7 @@ fn long_contents(a: u16, b: u16, long: u32) -> [u8; 8]
     [a_high, a_low, b_high, b_low, first, second, third, fourth]
 }
 
-// How many bytes the record of a request has.
+/// How many bytes the record of a request has.
 pub fn record_len(request: Request) -> usize
     ensures { result ≡ length (record_bytes request) }
 {
@@ -125,7 +125,9 @@ pub fn record_len(request: Request) -> usize
     }
 }
 
-// Writes the record of a request to the front of the buffer, and answers its length. One arm for each, as when it is read.
+/// Writes the record of a request to the front of the buffer, and answers its length.
+/// Where it exceeds the buffer, it is refused, and nothing is written.
+// One arm for each, as when it is read.
 #[tactic(auto, using(crate::proofs::Records::record_back))]
 pub fn write_record(request: Request, buffer: &mut [u8]) -> Result<usize, Refusal>
     ensures answer { outcome result ≡ put_answer (record_bytes request) buffer.old }
