@@ -46,7 +46,8 @@ abbrev pub Asked : LockTable → Lock → ℕ → Result SlotSet NotGranted → 
 Asked t lock asker (Ok struck) t' =
     (has_row lock ≡ true)
     × Granted (held t) lock asker (held t') (has struck.mask)
-    × ((k : ℕ) → listed_of t'.lists k ≡ listed_after (listed_of t.lists) lock asker (held t asker lock) (has struck.mask) k)
+    × ((k : ℕ) →
+    listed_of t'.lists k ≡ listed_after (listed_of t.lists) lock asker (held t asker lock) (has struck.mask) k)
 Asked t lock asker (Err (Blocked blocked)) t' = (has_row lock ≡ true) × Waits (conflicts (held t) lock asker) (has blocked.by.mask) × (t' ≡ t)
 Asked t lock asker (Err Absent) t' = (has_row lock ≡ false) × (t' ≡ t)
 

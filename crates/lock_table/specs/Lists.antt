@@ -22,22 +22,23 @@ may_hold list lock = nat_lt 32 list.count || list_any (on_one_row lock) (take li
 abbrev pub no_list : LockList
 no_list = record { locks = []; count = 0 }
 
--- The locks of a list, unless they were more than 32, as which they are only counted.
+-- The locks of a list, unless it has counted more than the 32 that it keeps
 abbrev pub locks_in : LockList → Option (List Lock)
 locks_in list = cond (nat_lt 32 list.count) None (Some (take list.count list.locks))
 
--- the same of slot k's list
+-- those of slot k's list
 abbrev pub listed_of : List LockList → ℕ → Option (List Lock)
 listed_of lists k = locks_in (slice_index_or lists k no_list)
 
--- Those of a list that has one lock more
+-- with one lock more
 abbrev pub one_more : Lock → Option (List Lock) → Option (List Lock)
 one_more lock None = None
 one_more lock (Some locks) = cond (nat_lt (length locks) 32) (Some (locks ++ lock ∷ [])) None
 
--- The lists where a lock is granted: those of the struck are empty, and where the asker did not hold it, it comes to the asker's.
+-- The lists once a lock is granted: those of the struck are empty, and where it was not held it comes to the asker's.
 abbrev pub listed_after : (ℕ → Option (List Lock)) → Lock → ℕ → Bool → (ℕ → Bool) → ℕ → Option (List Lock)
-listed_after listed lock asker held struck k = cond (struck k) (Some []) (cond (k == asker && not held) (one_more lock (listed k)) (listed k))
+listed_after listed lock asker held struck k =
+    cond (struck k) (Some []) (cond (k == asker && not held) (one_more lock (listed k)) (listed k))
 
 -- No slot holds a lock that it may not hold by its list.
 pub record Listed (cells : List CellRow) (policies : List PolicyRow) (lists : List LockList) : Type 0 where

@@ -35,11 +35,13 @@ impl LockTable {
         }
     }
 
-    // The locks that the slot was granted since its last release or strike, on whose rows all its locks lie, so that a search need not ask every
-    // row. `None` where they are more than 32.
+    // The locks that the slot was granted since its last release, on whose rows all its locks lie, so that a search need not ask
+    // every row. `None` where they are more than 32.
     pub fn listed(&self, slot: SlotIndex) -> Option<&[Lock]>
         ensures covers { MatchOption result (32 < (slice_index_or self.now.lists slot.at no_list).count) (λ locks. Covers locks.now (held self.now slot.at)) }
-        ensures locks { MatchOption result (listed_of self.now.lists slot.at ≡ None) (λ locks. listed_of self.now.lists slot.at ≡ Some locks.now) }
+        ensures locks { MatchOption result
+            (listed_of self.now.lists slot.at ≡ None)
+            (λ locks. listed_of self.now.lists slot.at ≡ Some locks.now) }
     {
         self.lists[slot.get()].as_slice()
     }
@@ -47,7 +49,8 @@ impl LockTable {
     // The slot loses all its locks, and its list has none.
     fn release_slot(&mut self, slot: SlotIndex)
         ensures locks { (k : ℕ) (l : Lock) → held self.new k l ≡ (held self.old k l && not (k == slot.at)) }
-        ensures lists { (k : ℕ) → listed_of self.new.lists k ≡ cond (k == slot.at) (Some []) (listed_of self.old.lists k) }
+        ensures lists { (k : ℕ) →
+            listed_of self.new.lists k ≡ cond (k == slot.at) (Some []) (listed_of self.old.lists k) }
     {
         release_by(
             &mut self.cells,
@@ -61,7 +64,8 @@ impl LockTable {
     // The slots of the set lose all their locks, and their lists have none.
     pub fn release(&mut self, gone: SlotSet)
         ensures locks { (k : ℕ) (l : Lock) → held self.new k l ≡ (held self.old k l && not (has gone.mask k)) }
-        ensures lists { (k : ℕ) → listed_of self.new.lists k ≡ cond (has gone.mask k) (Some []) (listed_of self.old.lists k) }
+        ensures lists { (k : ℕ) →
+            listed_of self.new.lists k ≡ cond (has gone.mask k) (Some []) (listed_of self.old.lists k) }
     {
         let mut rest = gone;
         while let Some(slot) = rest.pop_lowest() {
@@ -75,7 +79,8 @@ impl LockTable {
         ensures asked { AskedOnRow self.old.cells self.old.policies lock slot.at result self.new.cells self.new.policies }
         ensures stays { OnErr result (self.new ≡ self.old) }
         ensures lists { OnOk result ((k : ℕ) →
-            listed_of self.new.lists k ≡ cond (k == slot.at) (one_more lock (listed_of self.old.lists k)) (listed_of self.old.lists k)) }
+            listed_of self.new.lists k
+            ≡ cond (k == slot.at) (one_more lock (listed_of self.old.lists k)) (listed_of self.old.lists k)) }
     {
         let struck = ask_on_row(&mut self.cells, &mut self.policies, slot, lock)?;
         self.lists[slot.get()].push(lock);
