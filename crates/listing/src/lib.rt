@@ -1,16 +1,28 @@
 // The listing of a tape, in words.
 #![tactic(auto)]
 
-ghost use Rattle.std.specs.Prelude.{◌≡◌, ◌≤◌, length, IfOk, string_bytes};
+ghost use Rattle.std.specs.Prelude.{◌≡◌, ◌≤◌, ◌++◌, length, OnOk, IfOk, string_bytes};
 ghost use Rattle.records.specs.Faults.{fault_line};
 ghost use Rattle.records.specs.Tapes.{tape_bytes};
-ghost use Rattle.listing.specs.Listings.{request_lines, ending, read_size, last_line, listing_of};
+ghost use Rattle.listing.specs.Listings.{request_line, request_lines, ending, read_size, last_line, listing_of};
 
 use protocol::Request;
 use records::{FaultValues, read_tape, record_len};
 use std::alloc::{AllocError, Global};
 
-// The lines of a tape's records: each one's number, its first byte, and its request in words.
+// Appends the line of a record: its number, its first byte, and its request in words.
+fn push_request_line(
+    lines: &mut String,
+    number: usize,
+    start: usize,
+    request: Request,
+) -> Result<(), AllocError>
+    ensures { OnOk result (string_bytes lines.new ≡ string_bytes lines.old ++ request_line number start request) }
+{
+    writeln!(lines, "{number} {start} {request}")
+}
+
+// The lines of a tape's records.
 fn request_lines(heap: Global, requests: &[Request]) -> Result<String, AllocError>
     requires { length (tape_bytes requests.now) ≤ 60000 }
     ensures { IfOk result (λ lines. string_bytes lines ≡ request_lines 1 0 requests.now) }
@@ -18,7 +30,7 @@ fn request_lines(heap: Global, requests: &[Request]) -> Result<String, AllocErro
     let mut lines = String::new(heap);
     let mut start = 0;
     for (i, request) in requests.iter().enumerate() {
-        writeln!(lines, "{} {start} {request}", i + 1)?;
+        push_request_line(&mut lines, i + 1, start, *request)?;
         start += record_len(*request);
     }
     Ok(lines)
@@ -64,7 +76,8 @@ fn last_line(
     format!(in heap; "{count} records, {read} of {size} bytes, {ending}\n")
 }
 
-// A line for each record of a tape, the line of its fault, and a line that says what was read.
+/// A line for each record of a tape, the line of its fault, and a line that says what was read.
+/// Every tape is listed: no answer but want of memory stands in its place.
 pub fn list_tape(heap: Global, bytes: &[u8]) -> Result<String, AllocError>
     ensures { IfOk result (λ text. string_bytes text ≡ listing_of bytes.now) }
 {

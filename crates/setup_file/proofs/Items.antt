@@ -1,44 +1,73 @@
 -- The numbers of a store, word by word.
-use Rattle.std.proofs.Common.{◌≡◌, ℕ, ◌+◌, ◌<◌, ◌≤◌, List, [], ◌∷◌, ◌++◌, length, get_or, drop, map, Some, None, Option, Bor, sym, refl, ap, ◌∙◌, append_assoc}
-use Rattle.std.specs.Option.{option_map}
+use Rattle.std.proofs.Common.{◌≡◌, ℕ, ◌+◌, ◌<◌, ◌≤◌, true, false, ◌&&◌, List, [], ◌∷◌, ◌++◌, length, get_or, drop, Some, None, Option, sym, refl, ap, ◌∙◌, append_assoc}
+use Rattle.std.specs.Option.{option_map, is_some}
+use Rattle.std.specs.List.{list_all}
 use Rattle.std.proofs.lemmas.List.{append-nil, at_drop_more, at_drop_all}
-use Rattle.setup_file.specs.Items.{numbers_of, ◌>>=◌}
+use Rattle.setup_file.specs.declared.setup.Make.{Make}
+use Rattle.setup_file.specs.Items.{StoreContent, numbers_of, store_made, ◌>>=◌}
 use Rattle.setup_file.specs.Words.{long_of}
 
--- the words as lists of bytes
-abbrev pub texts : List (Bor (List ℕ)) → List (List ℕ)
-texts words = map (λ w. w.now) words
-
 -- Of the words so many were read, and their numbers stand before those of the words that are left.
-abbrev pub NumbersRead : List (Bor (List ℕ)) → ℕ → List ℕ → Type 0
-NumbersRead words i numbers = option_map (λ more. numbers ++ more) (numbers_of (texts (drop i words))) ≡ numbers_of (texts words)
+abbrev pub NumbersRead : List (List ℕ) → ℕ → List ℕ → Type 0
+NumbersRead words i numbers = option_map (λ more. numbers ++ more) (numbers_of (drop i words)) ≡ numbers_of words
 
-pub none_read : (words : List (Bor (List ℕ))) → NumbersRead words 0 []
-none_read words = elim (numbers_of (texts words)) as (λ o. option_map (λ more. [] ++ more) o ≡ o) [ None ↦ refl | Some ns ↦ refl ]
+pub none_read : (words : List (List ℕ)) → NumbersRead words 0 []
+none_read words = elim (numbers_of words) as (λ o. option_map (λ more. [] ++ more) o ≡ o) [ None ↦ refl | Some ns ↦ refl ]
 
 prepended : (numbers : List ℕ) (n : ℕ) (o : Option (List ℕ)) → option_map (λ more. numbers ++ more) (o >>= (λ ns. Some (n ∷ ns))) ≡ option_map (λ more. (numbers ++ n ∷ []) ++ more) o
 prepended numbers n None = refl
 prepended numbers n (Some ns) = ap Some (sym (append_assoc numbers (n ∷ []) ns))
 
-module _ (words : List (Bor (List ℕ))) (i : ℕ) (numbers : List ℕ) (read : NumbersRead words i numbers) where
-  pub numbers_more : (d : Bor (List ℕ)) (n : ℕ) (more : List ℕ) → i < length words → Some n ≡ long_of (get_or words i d).now → more ≡ numbers ++ n ∷ [] → NumbersRead words (i + 1) more
-  unfolding numbers_of
-  numbers_more d n more h is e =
-      let left = numbers_of (texts (drop (i + 1) words)) in
-      ap (λ ns. option_map (λ m. ns ++ m) left) e
-      ∙ sym (prepended numbers n left)
-      ∙ ap (λ o. option_map (λ m. numbers ++ m) (o >>= (λ k. left >>= (λ ns. Some (k ∷ ns))))) is
-      ∙ sym (at_drop_more (λ ws. option_map (λ m. numbers ++ m) (numbers_of (texts ws))) words i d h)
-      ∙ read
+module _ (words : List (List ℕ)) (i : ℕ) (numbers : List ℕ) (read : NumbersRead words i numbers) where
+  module _ (word : List ℕ) (next : (i < length words) × (word ≡ get_or words i word)) where
+    one_word : option_map (λ m. numbers ++ m) (long_of word >>= (λ k. numbers_of (drop (i + 1) words) >>= (λ ns. Some (k ∷ ns)))) ≡ numbers_of words
+    unfolding numbers_of
+    one_word =
+        let left = numbers_of (drop (i + 1) words) in
+        ap (λ w. option_map (λ m. numbers ++ m) (long_of w >>= (λ k. left >>= (λ ns. Some (k ∷ ns))))) next.1
+        ∙ sym (at_drop_more (λ ws. option_map (λ m. numbers ++ m) (numbers_of ws)) words i word next.0)
+        ∙ read
 
-  pub numbers_stop : (d : Bor (List ℕ)) → i < length words → None ≡ long_of (get_or words i d).now → None ≡ numbers_of (texts words)
-  unfolding numbers_of
-  numbers_stop d h is =
-      let left = numbers_of (texts (drop (i + 1) words)) in
-      ap (λ o. option_map (λ m. numbers ++ m) (o >>= (λ k. left >>= (λ ns. Some (k ∷ ns))))) is
-      ∙ sym (at_drop_more (λ ws. option_map (λ m. numbers ++ m) (numbers_of (texts ws))) words i d h)
-      ∙ read
+    pub numbers_more : (n : ℕ) (more : List ℕ) → Some n ≡ long_of word → more ≡ numbers ++ n ∷ [] → NumbersRead words (i + 1) more
+    numbers_more n more is e =
+        let left = numbers_of (drop (i + 1) words) in
+        ap (λ ns. option_map (λ m. ns ++ m) left) e
+        ∙ sym (prepended numbers n left)
+        ∙ ap (λ o. option_map (λ m. numbers ++ m) (o >>= (λ k. left >>= (λ ns. Some (k ∷ ns))))) is
+        ∙ one_word
 
-  pub numbers_end : length words ≤ i → Some numbers ≡ numbers_of (texts words)
+    pub numbers_stop : None ≡ long_of word → None ≡ numbers_of words
+    numbers_stop is =
+        let left = numbers_of (drop (i + 1) words) in
+        ap (λ o. option_map (λ m. numbers ++ m) (o >>= (λ k. left >>= (λ ns. Some (k ∷ ns))))) is ∙ one_word
+
+  pub numbers_end : length words ≤ i → Some numbers ≡ numbers_of words
   unfolding numbers_of
-  numbers_end h = ap Some (sym (append-nil numbers)) ∙ sym (at_drop_all (λ ws. option_map (λ m. numbers ++ m) (numbers_of (texts ws))) words i h) ∙ read
+  numbers_end h = ap Some (sym (append-nil numbers)) ∙ sym (at_drop_all (λ ws. option_map (λ m. numbers ++ m) (numbers_of ws)) words i h) ∙ read
+
+-- ---- without keeping them
+
+chained : (a : Option ℕ) (b : Option (List ℕ)) → (is_some a && is_some b) ≡ is_some (a >>= (λ k. b >>= (λ ns. Some (k ∷ ns))))
+chained None b = refl
+chained (Some n) None = refl
+chained (Some n) (Some ns) = refl
+
+pub numbers_known : (words : List (List ℕ)) → list_all (λ w. is_some (long_of w)) words ≡ is_some (numbers_of words)
+unfolding numbers_of
+numbers_known [] = refl
+numbers_known (w ∷ ws) = ap (λ b. is_some (long_of w) && b) (numbers_known ws) ∙ chained (long_of w) (numbers_of ws)
+
+module _ (make : Make) (words : List (List ℕ)) where
+  made : (o : Option (List ℕ)) → is_some o ≡ true → (store : StoreContent) × ((o >>= (λ numbers. Some (record { make = make; numbers = numbers }))) ≡ Some store)
+  made None e = let said : false ≡ true = e in absurd cc
+  made (Some ns) e = (record { make = make; numbers = ns }, refl)
+
+  unmade : (o : Option (List ℕ)) → is_some o ≡ false → ◌≡◌ {A = Option StoreContent} (o >>= (λ numbers. Some (record { make = make; numbers = numbers }))) None
+  unmade None e = refl
+  unmade (Some ns) e = let said : true ≡ false = e in absurd cc
+
+  pub store_known : is_some (numbers_of words) ≡ true → (store : StoreContent) × (store_made make words ≡ Some store)
+  store_known e = made (numbers_of words) e
+
+  pub store_unknown : is_some (numbers_of words) ≡ false → store_made make words ≡ None
+  store_unknown e = unmade (numbers_of words) e

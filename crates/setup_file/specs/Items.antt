@@ -55,12 +55,17 @@ abbrev pub make_of : List (List ℕ) → Option (Make × List (List ℕ))
 make_of [] = None
 make_of (kind ∷ more) = cond (bytes_eq kind (codes "slice")) (Some (Slice, more)) (cond (bytes_eq kind (codes "table")) (Some (Table, more)) (cond (bytes_eq kind (codes "log")) (log_of more) None))
 
+-- so made, with the words as its numbers
+abbrev pub store_made : Make → List (List ℕ) → Option StoreContent
+store_made make words = do
+  numbers ← numbers_of words
+  Some (record { make = make; numbers = numbers })
+
 -- a make, and then numbers
 abbrev pub store_of : List (List ℕ) → Option StoreContent
 store_of words = do
   p ← make_of words
-  numbers ← numbers_of p.1
-  Some (record { make = p.0; numbers = numbers })
+  store_made p.0 p.1
 
 -- the store that the code holds
 abbrev pub store_content : StoreLine → StoreContent

@@ -98,6 +98,10 @@ no_items = record { order = None; cells = None; rights = None; policies = [] }
 abbrev pub content_of : List ℕ → Result SetupContent Place
 content_of text = lines_from 0 no_items (slice_split (λ b. b == 10) text)
 
+-- The text says a set-up.
+abbrev pub IsReadable : List ℕ → Type 0
+IsReadable text = (setup : SetupContent) × (content_of text ≡ Ok setup)
+
 -- the set-up that the code holds
 abbrev pub setup_content : SetupFile → SetupContent
 setup_content file = record { order = file.order; cells = store_content file.cells; rights = store_content file.rights; policies = vec_items file.policies }
@@ -118,8 +122,8 @@ abbrev pub error_at : ℕ → LineError → SetupFileError
 error_at line (NoMemory _) = OutOfMemory
 error_at line (AtLine problem) = Unreadable line problem
 
--- What reading a text promises, where there was memory.
+-- What reading a text promises. There is no want of memory for a text that cannot be read.
 abbrev pub ReadsSetupFile : List ℕ → Result SetupFile SetupFileError → Type 0
 ReadsSetupFile text (Ok file) = content_of text ≡ Ok (setup_content file)
 ReadsSetupFile text (Err (Unreadable line problem)) = content_of text ≡ Err (record { line = line; problem = problem })
-ReadsSetupFile text (Err OutOfMemory) = Unit {0}
+ReadsSetupFile text (Err OutOfMemory) = IsReadable text

@@ -8,9 +8,13 @@ use Rattle.std.specs.Str.Parse.{digits_value}
 abbrev pub is_blank : ℕ → Bool
 is_blank b = b == 32 || b == 9 || b == 13
 
--- The words of a line: of what stands before its first `#`, the longest runs of bytes that are no blanks.
+-- The words of a text: the longest runs of bytes that are no blanks.
+abbrev pub words_in : List ℕ → List (List ℕ)
+words_in text = filter (λ word. not (length word == 0)) (slice_split is_blank text)
+
+-- The words of a line: of what stands before its first `#`.
 abbrev pub words_of : List ℕ → List (List ℕ)
-words_of line = filter (λ word. not (length word == 0)) (slice_split is_blank (before_first (λ b. b == 35) line))
+words_of line = words_in (before_first (λ b. b == 35) line)
 
 -- The number that a word is: one or more decimal digits whose value is within the limit.
 abbrev pub number_of : ℕ → List ℕ → Option ℕ

@@ -1,14 +1,13 @@
 // What the lines of a set-up file have said so far.
-ghost use Rattle.std.specs.Prelude.{◌≡◌, map, MatchResult, OnOk, IfErr, IsSome, Some, None, Ok, Err};
+ghost use Rattle.std.specs.Prelude.{◌≡◌, MatchResult, OnOk, IfErr, IsSome, Some, None, Ok, Err};
 ghost use Rattle.setup_file.specs.declared.error.Problem.TheVariants.{Repeated};
+ghost use Rattle.setup_file.specs.Reading.{with_item};
 ghost use Rattle.setup_file.specs.SetupFiles.{ReadsLine, draft_content, setup_content, no_items, with_words, finished};
 ghost use Rattle.setup_file.specs.Words.{words_of};
 
 use crate::error::{LineError, Problem};
-use crate::item::{order, policy, store};
-use crate::keywords::{CELLS, ORDER, POLICY, RIGHTS};
+use crate::item::{Item, read_item, store};
 use crate::setup::{OrderLine, SetupFile, StoreLine};
-use crate::words::words;
 use protocol::Policy;
 use std::alloc::{AllocError, Global};
 
@@ -44,29 +43,23 @@ impl Draft {
         }
     }
 
-    fn take_words(&mut self, heap: Global, words: &[&[u8]]) -> Result<(), LineError>
-        ensures { ReadsLine (with_words (map (λ w. w.now) words.now) (draft_content self.old)) self.new result }
+    fn take(&mut self, heap: Global, item: Item) -> Result<(), LineError>
+        ensures { ReadsLine (with_item item.entry (draft_content self.old)) self.new result }
     {
-        match words {
-            [] => Ok(()),
-            [item, more @ ..] if *item == ORDER => {
-                let order = order(more).ok_or(Problem::BadOrder)?;
-                put_once(&mut self.order, order)
-            }
-            [item, more @ ..] if *item == CELLS => {
-                let cells = store(heap, more)?.ok_or(Problem::BadStore)?;
+        match item {
+            Item::Order(order) => put_once(&mut self.order, order),
+            Item::Cells(make, words) => {
+                let cells = store(heap, make, words)?.ok_or(Problem::BadStore)?;
                 put_once(&mut self.cells, cells)
             }
-            [item, more @ ..] if *item == RIGHTS => {
-                let rights = store(heap, more)?.ok_or(Problem::BadStore)?;
+            Item::Rights(make, words) => {
+                let rights = store(heap, make, words)?.ok_or(Problem::BadStore)?;
                 put_once(&mut self.rights, rights)
             }
-            [item, more @ ..] if *item == POLICY => {
-                let policy = policy(more).ok_or(Problem::BadPolicy)?;
+            Item::Policy(policy) => {
                 self.policies.push(policy).map_err(AllocError::from)?;
                 Ok(())
             }
-            _ => Err(LineError::from(Problem::NoItem)),
         }
     }
 
@@ -74,8 +67,10 @@ impl Draft {
     pub(crate) fn take_line(&mut self, heap: Global, line: &[u8]) -> Result<(), LineError>
         ensures { ReadsLine (with_words (words_of line.now) (draft_content self.old)) self.new result }
     {
-        let words = words(heap, line)?;
-        self.take_words(heap, words.as_slice())
+        match read_item(line)? {
+            None => Ok(()),
+            Some(item) => self.take(heap, item),
+        }
     }
 
     // The set-up, behind the last line.

@@ -5,10 +5,16 @@ ghost use Rattle.setup_file.specs.SetupFiles.{error_at};
 ghost use Rattle.setup_file.specs.declared.error.LineError.TheVariants.{NoMemory, AtLine};
 ghost use Rattle.setup_file.specs.declared.error.SetupFileError.TheVariants.{OutOfMemory};
 
+use arrayvec::ArrayString;
+use itoa::Buffer;
 use std::alloc::AllocError;
 use std::error::Error;
 use std::fmt;
 
+/// How many bytes a message has at most, with any number of a line.
+pub const MESSAGE_MAX: usize = 160;
+
+/// What is wrong with a line, or missing behind the last one.
 #[derive(Clone, Copy, PartialEq, Eq, Debug)]
 pub enum Problem {
     // The first word of the line begins no item.
@@ -23,6 +29,7 @@ pub enum Problem {
     NoRights,
 }
 
+/// Why a set-up file was not read.
 #[derive(Clone, Copy, PartialEq, Eq, Debug)]
 pub enum SetupFileError {
     OutOfMemory,
@@ -73,11 +80,12 @@ impl From<Problem> for LineError {
     }
 }
 
-impl fmt::Display for Problem {
-    ghost output = { λ problem. Some (problem_words problem) };
-
-    fn fmt<W: fmt::Write>(&self, f: &mut fmt::Formatter<W>) -> fmt::Result {
-        f.write_str(match self {
+impl Problem {
+    /// What is wrong with the line, or missing, and the right form.
+    pub fn message(self) -> &'static str
+        ensures { result.now ≡ problem_words self }
+    {
+        match self {
             Problem::NoItem => "a line begins with `order`, `cells`, `rights` or `policy`",
             Problem::BadOrder =>
                 "an order is `order vector` or `order ladder READ WRITE RESTRICT`, with numbers up to 4294967295",
@@ -92,20 +100,46 @@ impl fmt::Display for Problem {
                 "the cells are missing: `cells slice NUMBER ..`, `cells table NUMBER ..` or `cells log PLACES NUMBER ..`",
             Problem::NoRights =>
                 "the rights are missing: `rights slice NUMBER ..`, `rights table NUMBER ..` or `rights log PLACES NUMBER ..`",
-        })
+        }
     }
 }
 
+/// Writes the message.
+impl fmt::Display for Problem {
+    ghost output = { λ problem. Some (problem_words problem) };
+
+    fn fmt<W: fmt::Write>(&self, f: &mut fmt::Formatter<W>) -> fmt::Result {
+        f.write_str(self.message())
+    }
+}
+
+impl SetupFileError {
+    /// What to tell the user, with the number of the line.
+    pub fn message(self) -> ArrayString<MESSAGE_MAX>
+        ensures { result.bytes ≡ message self }
+    {
+        let mut message = ArrayString::new();
+        match self {
+            SetupFileError::OutOfMemory => message.push_str(
+                "there is not enough memory for the set-up file",
+            ),
+            SetupFileError::Unreadable { line, problem } => {
+                message.push_str("line ");
+                message.push_str(Buffer::new().format(line));
+                message.push_str(": ");
+                message.push_str(problem.message());
+            }
+        }
+        message
+    }
+}
+
+/// Writes the message.
 impl fmt::Display for SetupFileError {
     ghost output = { λ error. Some (message error) };
 
     fn fmt<W: fmt::Write>(&self, f: &mut fmt::Formatter<W>) -> fmt::Result {
-        match *self {
-            SetupFileError::OutOfMemory => f.write_str(
-                "there is not enough memory for the set-up file",
-            ),
-            SetupFileError::Unreadable { line, problem } => write!(f, "line {line}: {problem}"),
-        }
+        f.write_str(self.message().as_str())
     }
 }
 

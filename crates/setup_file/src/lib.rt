@@ -7,9 +7,10 @@ mod item;
 mod keywords;
 mod number;
 mod read;
+mod seen;
 mod setup;
 mod words;
 
-pub use error::{Problem, SetupFileError};
+pub use error::{MESSAGE_MAX, Problem, SetupFileError};
 pub use read::read_setup_file;
 pub use setup::{Make, OrderLine, SetupFile, StoreLine};

@@ -1,17 +1,43 @@
 // The text of a set-up file, line by line.
 ghost use Rattle.std.specs.Prelude.{◌≡◌};
-ghost use Rattle.setup_file.specs.SetupFiles.{SetupContent, ReadsSetupFile};
+ghost use Rattle.setup_file.specs.Checks.{ChecksText};
+ghost use Rattle.setup_file.specs.SetupFiles.{SetupContent, IsReadable, ReadsSetupFile};
 ghost use Rattle.setup_file.specs.Texts.{text_of, Fits, Gives};
 
 use crate::draft::Draft;
 use crate::error::SetupFileError;
+use crate::seen::Seen;
 use crate::setup::SetupFile;
 use std::alloc::Global;
 
-pub fn read_setup_file(heap: Global, text: &[u8]) -> Result<SetupFile, SetupFileError>
-    ensures reads { ReadsSetupFile text.now result }
-    // The text that writing a set-up makes gives the set-up back.
-    ensures reads_back { (setup : SetupContent) → Fits setup → text_of setup ≡ text.now → Gives setup result }
+// The first line that cannot be read, if there is one. No memory is taken.
+fn check_text(text: &[u8]) -> Result<(), SetupFileError>
+    ensures { ChecksText text.now result }
+{
+    let mut seen = Seen::new();
+    let mut number = 0;
+    for line in text.split(|byte| *byte == b'\n') {
+        number += 1;
+        if let Err(problem) = seen.take_line(line) {
+            return Err(SetupFileError::Unreadable {
+                line: number,
+                problem,
+            });
+        }
+    }
+    match seen.finish() {
+        Ok(()) => Ok(()),
+        Err(problem) => Err(SetupFileError::Unreadable {
+            line: number,
+            problem,
+        }),
+    }
+}
+
+// Reads a text that can be read: only memory may be wanting.
+fn read_text(heap: Global, text: &[u8]) -> Result<SetupFile, SetupFileError>
+    requires { IsReadable text.now }
+    ensures { ReadsSetupFile text.now result }
 {
     let mut draft = Draft::new(heap);
     let mut count = 0;
@@ -28,4 +54,14 @@ pub fn read_setup_file(heap: Global, text: &[u8]) -> Result<SetupFile, SetupFile
             problem,
         }),
     }
+}
+
+/// Reads the text of a set-up file. A line that cannot be read is told before any memory is taken.
+pub fn read_setup_file(heap: Global, text: &[u8]) -> Result<SetupFile, SetupFileError>
+    ensures reads { ReadsSetupFile text.now result }
+    // The text that writing a set-up makes gives the set-up back.
+    ensures reads_back { (setup : SetupContent) → Fits setup → text_of setup ≡ text.now → Gives setup result }
+{
+    check_text(text)?;
+    read_text(heap, text)
 }

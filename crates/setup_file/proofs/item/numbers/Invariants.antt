@@ -1,6 +1,10 @@
-use Rattle.std.proofs.Common.{vec_items}
+use Rattle.std.proofs.Common.{length, vec_items}
+use Rattle.std.proofs.lemmas.Iterator.{YieldsList}
+use Rattle.setup_file.specs.WordsLeft.{words_left}
 use Rattle.setup_file.proofs.Items.{NumbersRead}
 use Rattle.setup_file.proofs.item.numbers.Given as goal
 
+-- The iterator gives the words, and the numbers of those so far were kept.
 abbrev pub invariant-loop-word : goal.invariant-loop-word
-invariant-loop-word l = NumbersRead l.words l.word-index (vec_items l.numbers)
+invariant-loop-word l =
+    YieldsList ((goal.iterator-loop-word).next_gives) (λ w. w.now) l.initial.word-iterator (words_left l.words) × NumbersRead (words_left l.words) (length l.yielded) (vec_items l.numbers)

@@ -1,51 +1,15 @@
-use Rattle.std.proofs.Common.{◌+◌, ◌<◌, ◌^◌, eqb, length, Ok, Err, sym, refl, ap, ◌∙◌, subst, arith, rules, tests}
-use Rattle.std.proofs.lemmas.Iterator.Consumers.{YieldsList-at, YieldsList-turn, YieldsList-end}
-use Rattle.std.proofs.lemmas.Iterator.Splits.{YieldsList-from_slice_split}
-use Rattle.std.proofs.lemmas.List.{length_push}
-use Rattle.setup_file.specs.declared.error.SetupFileError.TheVariants.{Unreadable}
-use Rattle.setup_file.specs.SetupFiles.{draft_content, lines_from, at_line, ReadsSetupFile}
-use Rattle.setup_file.proofs.Lines.{lines, few_lines, LinesRead, line_read, error_read, lines_end}
+use Rattle.std.proofs.Common.{Err}
+use Rattle.std.proofs.lemmas.Result.{err_from_is_err_and}
+use Rattle.setup_file.proofs.Lines.{told}
 use Rattle.setup_file.proofs.Writing.{read_back}
 use Rattle.setup_file.proofs.read.read_setup_file.Goals as goal
 
-pub loop-line-init : goal.loop-line-init
-loop-line-init c = (
-  YieldsList-at c.into_iter-line-iterator.ensures.into_iter_gives (YieldsList-from_slice_split _ (λ b. eqb b 10) c.args.text.now c.split-line-items.ensures.rest c.split-line-items.ensures.done c.split-line-items.ensures.closure (λ x r q k. search (rules, tests))),
-  record { counted = refl; left = ap (λ d. lines_from 0 d (lines c.args.text.now)) c.new-draft.ensures },
-)
+pub returns-in_err-check_text-clause-reads_back : goal.returns-in_err-check_text-clause-reads_back
+returns-in_err-check_text-clause-reads_back c setup fits e =
+    let text = c.args.text.now in
+    let error = c.in_err-check_text.field-0.0 in
+    let p = err_from_is_err_and c.from_residual.result c.from_residual.ensures.1 in
+    rw (p.1, p.2) (read_back text (Err error) (told text error c.in_err-check_text.ensures) setup fits e)
 
-pub overflow_add-count : goal.overflow_add-count
-overflow_add-count c =
-    let l = c.loop-line in
-    let next = YieldsList-turn l.invariant.0 l.yielded _ l.yielded_by _ _ c.in-Some.line c.in-Some.is c.next.ensures.steps in
-    let few = few_lines c.args.text.now in
-    let size : length c.args.text.now < 2 ^ 63 = search rules in
-    omega (arith, next.0, few, size, l.invariant.1.counted)
-
-pub returns-in-Err : goal.returns-in-Err
-returns-in-Err c =
-    let l = c.loop-line in
-    let next = YieldsList-turn l.invariant.0 l.yielded _ l.yielded_by _ _ c.in-Some.line c.in-Some.is c.next.ensures.steps in
-    let read = subst (λ e. ReadsSetupFile c.args.text.now (Err e)) (sym c.at.ensures) (error_read c.args.text.now _ _ _ l.invariant.1 c.in-Some.line.now next c.in-Err.error c.take_line.new.self c.in-Err.ensures) in
-    record { reads = read; reads_back = read_back c.args.text.now (Err c.at.result) read }
-
-pub loop-line-preserved : goal.loop-line-preserved
-loop-line-preserved c =
-    let l = c.loop-line in
-    let next = YieldsList-turn l.invariant.0 l.yielded _ l.yielded_by _ _ c.in-Some.line c.in-Some.is c.next.ensures.steps in
-    let n = length_push l.yielded c.in-Some.line in
-    (l.invariant.0, subst (λ i. LinesRead c.args.text.now i (l.count + 1) (draft_content c.take_line.new.self)) (sym n) (line_read c.args.text.now _ _ _ l.invariant.1 c.in-Some.line.now next _ c.in_default.ensures))
-
-pub returns-in-Ok : goal.returns-in-Ok
-returns-in-Ok c =
-    let l = c.loop-line in
-    let end = YieldsList-end l.invariant.0 l.yielded _ l.yielded_by _ _ c.in-None.is c.next.ensures.steps in
-    let read = lines_end c.args.text.now _ _ _ l.invariant.1 (omega (arith, end.1)) ∙ ap (λ o. at_line l.count o Ok) c.in-Ok.ensures in
-    record { reads = read; reads_back = read_back c.args.text.now (Ok c.in-Ok.file) read }
-
-pub returns-in-Err-finish : goal.returns-in-Err-finish
-returns-in-Err-finish c =
-    let l = c.loop-line in
-    let end = YieldsList-end l.invariant.0 l.yielded _ l.yielded_by _ _ c.in-None.is c.next.ensures.steps in
-    let read = lines_end c.args.text.now _ _ _ l.invariant.1 (omega (arith, end.1)) ∙ ap (λ o. at_line l.count o Ok) c.in-Err-finish.ensures in
-    record { reads = read; reads_back = read_back c.args.text.now (Err (Unreadable l.count c.in-Err-finish.problem)) read }
+pub returns-clause-reads_back : goal.returns-clause-reads_back
+returns-clause-reads_back c = read_back c.args.text.now c.read_text.result c.read_text.ensures

@@ -2,7 +2,7 @@ use Rattle.std.proofs.Common.{length}
 use Rattle.std.proofs.lemmas.Iterator.{YieldsList}
 use Rattle.setup_file.specs.SetupFiles.{draft_content}
 use Rattle.setup_file.proofs.Lines.{lines, LinesRead}
-use Rattle.setup_file.proofs.read.read_setup_file.Given as goal
+use Rattle.setup_file.proofs.read.read_text.Given as goal
 
 -- The iterator gives the lines, and those so far were read.
 abbrev pub invariant-loop-line : goal.invariant-loop-line
