@@ -7,7 +7,7 @@ use protocol::{Object, Policy, Refusal};
 
 /// A policy in three numbers: of kind 0 its object is the cell of that number, of kind 1 the policy. Any other kind names no object.
 #[repr(C)]
-#[derive(Clone, Copy)]
+#[derive(Clone, Copy, PartialEq, Eq, Debug)]
 pub struct PolicyEntry {
     /// Who may use the policy.
     pub subject: u16,

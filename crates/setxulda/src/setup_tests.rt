@@ -69,3 +69,19 @@ fn no_object_has_the_policy(rt: HostRuntime) {
     check_answer(&rt, &[], 7, &policies, 15);
     check_answer(&rt, &[], 7, &policies[0..1], 15);
 }
+
+// Three numbers of two bytes take six (`c_calls`), so that these stand at the bytes 0, 2 and 4.
+#[test]
+fn an_entry_has_its_numbers_in_the_order_of_the_header(rt: HostRuntime) {
+    let entry = PolicyEntry {
+        subject: 1,
+        kind: 2,
+        number: 3,
+    };
+    let shown = format!(in rt.alloc(); "{entry:?}").expect(&rt, "memory");
+    check_eq(
+        &rt,
+        shown.as_str(),
+        "PolicyEntry { subject: 1, kind: 2, number: 3 }",
+    );
+}
