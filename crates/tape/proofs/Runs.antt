@@ -7,6 +7,7 @@ use Rattle.protocol.specs.declared.request.Request.{Request}
 use Rattle.records.specs.declared.fault.FaultValues.{FaultValues}
 use Rattle.records.specs.Faults.{values_line}
 use Rattle.records.specs.Tapes.{TapeReading, at_end, at_fault, behind}
+use Rattle.records.proofs.Tapes.{ahead}
 use Rattle.stores.specs.declared.store.Store as store
 use Rattle.rights.specs.declared.order.RightsOrder as order
 use Rattle.protocol.specs.Refusals.{answered}
@@ -23,10 +24,6 @@ use Rattle.engine.proofs.Working.{works_none, works_push}
 use Rattle.tape.specs.Records.{RanRecords}
 use Rattle.tape.specs.Runs.{longest_lines, run_check, Ran, RunsTape}
 use Rattle.tape.proofs.Pushed.{Front, front_none, front_answer, front_more}
-
--- requests that were read before
-abbrev pub ahead : List Request → TapeReading → TapeReading
-ahead requests records = record { requests = requests ++ records.requests; fault = records.fault }
 
 ahead_behind : (rs : List Request) (q : Request) (records : TapeReading) → ahead rs (behind q records) ≡ ahead (rs ++ q ∷ []) records
 ahead_behind rs q records = ap (λ qs. record { requests = qs; fault = records.fault }) (sym (append_assoc rs (q ∷ []) records.requests))
