@@ -6,10 +6,9 @@ use Rattle.protocol.specs.declared.request.Request.{Request}
 use Rattle.stores.specs.declared.store.Store as store
 use Rattle.rights.specs.declared.order.RightsOrder as order
 use Rattle.serial.specs.Words.{Setup, Store, Laws, Change}
-use Rattle.serial.specs.Model.{State}
 use Rattle.serial.specs.History.{Admitted}
 use Rattle.serial.specs.OneDay.{history, morning, Worked, DayDone}
-use Rattle.serial.specs.Writes.{changes_from, day_changes}
+use Rattle.serial.specs.Writes.{day_changes}
 use Rattle.serial.proofs.OneDay.{worked_day}
 use Rattle.serial.proofs.Writes.{day_written}
 use Rattle.engine.specs.declared.engine.Engine.{Engine}

@@ -1,10 +1,10 @@
 -- Some writes to a store on a log: which bytes they leave.
-use Rattle.std.proofs.Common.{◌≡◌, ℕ, List, [], ◌∷◌, sym, refl, ap, ap₂, ◌∙◌}
+use Rattle.std.proofs.Common.{◌≡◌, ℕ, List, [], ◌∷◌, ap, ap₂, ◌∙◌}
 use Rattle.stores.specs.Writes.{Written}
 use Rattle.log_store.specs.contracts.store.LogStoreStore.TheImpl as log
 use Rattle.log_store.specs.declared.held.LogStore.{LogStore}
 use Rattle.log_store.specs.Held.{bytes_of}
-use Rattle.log_store.specs.Log.{bytes_after, bytes_after_all}
+use Rattle.log_store.specs.Log.{bytes_after_all}
 
 pub written_bytes : (writes : List (ℕ × ℕ)) (s t : LogStore) → Written log.ghosts writes s t → (t.count ≡ s.count) × (bytes_of t ≡ bytes_after_all s.count (bytes_of s) writes)
 unfolding Written bytes_after_all

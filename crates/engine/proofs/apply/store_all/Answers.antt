@@ -1,4 +1,4 @@
-use Rattle.std.proofs.Common.{◌<◌, ◌++◌, [], ◌∷◌, length, get_or, take, refl, rules}
+use Rattle.std.proofs.Common.{◌<◌, [], ◌∷◌, length, get_or, take, refl, rules}
 use Rattle.std.proofs.lemmas.List.{take_more, take_all}
 use Rattle.protocol.specs.declared.policy.Object.TheVariants.{OfCell}
 use Rattle.workspace.specs.Workspaces.{changes_of}

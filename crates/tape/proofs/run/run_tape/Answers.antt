@@ -1,6 +1,6 @@
-use Rattle.std.proofs.Common.{◌≡◌, ◌≤◌, length, subst, sym, refl, ap, ◌∙◌, arith, rules}
+use Rattle.std.proofs.Common.{◌≡◌, ◌≤◌, subst, sym, refl, ap, ◌∙◌, arith, rules}
 use Rattle.std.proofs.lemmas.Result.{err_from_is_err_and}
-use Rattle.protocol.specs.Refusals.{answered, ◌then◌}
+use Rattle.protocol.specs.Refusals.{◌then◌}
 use Rattle.records.specs.Tapes.{tape_of, at_fault}
 use Rattle.serial.specs.Words.{Laws}
 use Rattle.serial.specs.OneDay.{morning}
@@ -10,7 +10,7 @@ use Rattle.engine.specs.Engines.{state_of, setup_of}
 use Rattle.engine.specs.Beginning.{setup_with, begin_state, begin_policies}
 use Rattle.engine.proofs.Writing.{wrote_none}
 use Rattle.tape.specs.Records.{RanRecords}
-use Rattle.tape.specs.Runs.{longest_lines, room_check, run_check}
+use Rattle.tape.specs.Runs.{longest_lines, room_check}
 use Rattle.tape.proofs.Rooms.{longest_short, longest_long}
 use Rattle.tape.proofs.Runs.{so_far_none, so_far_stops, ran_of}
 use Rattle.tape.proofs.run.run_tape.Goals as goal

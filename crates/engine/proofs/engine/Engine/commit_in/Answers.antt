@@ -1,4 +1,4 @@
-use Rattle.std.proofs.Common.{length, refl, ap, sym, ◌∙◌}
+use Rattle.std.proofs.Common.{length, refl, ap, ◌∙◌}
 use Rattle.workspace.specs.Workspaces.{changes_of}
 use Rattle.engine.specs.Stores.{lists_of, first_cells}
 use Rattle.engine.proofs.Applying.{applied_size, first_applied}
