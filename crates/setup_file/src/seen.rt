@@ -40,7 +40,8 @@ impl Seen {
     }
 
     fn take(&mut self, item: Item) -> Result<(), Problem>
-        ensures { (draft : DraftContent) → Stands self.old draft → ChecksLine (with_item item.entry draft) self.new result }
+        ensures { (draft : DraftContent) → Stands self.old draft
+            → ChecksLine (with_item item.entry draft) self.new result }
     {
         match item {
             Item::Order(_) => see_once(&mut self.order),
@@ -53,7 +54,8 @@ impl Seen {
 
     // One more line. No memory is taken.
     pub(crate) fn take_line(&mut self, line: &[u8]) -> Result<(), Problem>
-        ensures { (draft : DraftContent) → Stands self.old draft → ChecksLine (with_words (words_of line.now) draft) self.new result }
+        ensures { (draft : DraftContent) → Stands self.old draft
+            → ChecksLine (with_words (words_of line.now) draft) self.new result }
     {
         match read_item(line)? {
             None => Ok(()),

@@ -57,7 +57,8 @@ impl<'a> Words<'a> {
 
     // The words, if they are few.
     pub(crate) fn few(self) -> Option<ArrayVec<&'a [u8], FEW>>
-        ensures { MatchOption result (4 < length (words_left self.entry)) (λ few. map (λ w. w.now) few.items ≡ words_left self.entry) }
+        ensures { MatchOption result (FEW < length (words_left self.entry))
+            (λ few. map (λ w. w.now) few.items ≡ words_left self.entry) }
     {
         let mut few = ArrayVec::new();
         for word in self {
