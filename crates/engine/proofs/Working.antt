@@ -5,9 +5,10 @@ use Rattle.protocol.specs.declared.answer.Answer.{Answer}
 use Rattle.protocol.specs.declared.request.Request.{Request}
 use Rattle.stores.specs.declared.store.Store as store
 use Rattle.rights.specs.declared.order.RightsOrder as order
+use Rattle.stores.specs.Writes.{Written}
 use Rattle.serial.specs.Model.{State, step, answer}
-use Rattle.serial.specs.Writes.{changes_from}
-use Rattle.serial.proofs.OneDay.{worked_none, worked_push, written_push}
+use Rattle.serial.specs.Writes.{NoneCommitted, changes_from, to_cells, to_rights}
+use Rattle.serial.proofs.OneDay.{worked_none, worked_push, written_push, nothing_written}
 use Rattle.engine.specs.declared.engine.Engine.{Engine}
 use Rattle.engine.specs.Engines.{state_of, setup_of, Keeps, Works, Steps}
 use Rattle.engine.proofs.Writing.{wrote_none, wrote_both}
@@ -47,3 +48,11 @@ module _ {C R O : Type 0} {c : store.Ghosts C} {r : store.Ghosts R} {o : order.G
   pub works_more : {e m f : Engine C R O} {a : Answer} (rs : List Request) (bs : List Answer) (k : ℕ) (d : Request) → Works c r o e (take k rs) (take k bs) m
       → k < length rs → k < length bs → Steps c r o m (get_or rs k d) a f → Works c r o e (take (k + 1) rs) (take (k + 1) (set bs k a)) f
   works_more {a = a} rs bs k d w lr lb went = rw (take_more rs k d lr, take_more_set bs k a lb) (works_push w (get_or rs k d) went)
+
+  -- where none of them is a commit that was granted, the stores themselves stay
+  pub works_nothing : {e f : Engine C R O} {rs : List Request} {bs : List Answer} → Works c r o e rs bs f → NoneCommitted rs bs
+      → (f.cells.now ≡ e.cells.now) × (f.rights.now ≡ e.rights.now)
+  unfolding Written to_cells to_rights
+  works_nothing w none =
+      let wrote = rw (nothing_written _ _ _ _ w.worked.answered_in_turn none) at w.writes in
+      (wrote.into_cells, wrote.into_rights)

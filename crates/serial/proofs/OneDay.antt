@@ -3,11 +3,12 @@ use Rattle.std.proofs.Common.{◌≡◌, ℕ, ◌+◌, ◌<◌, List, [], ◌∷
 use Rattle.std.proofs.lemmas.List.{take_more, take_more_set, length-append, append_assoc, append-nil}
 use Rattle.protocol.specs.declared.request.Request.{Request}
 use Rattle.protocol.specs.declared.answer.Answer.{Answer}
+use Rattle.protocol.specs.declared.answer.Answer.TheVariants.{Granted, Refused, Wait, Aborted}
 use Rattle.serial.specs.Words.{Setup, Laws, Store}
 use Rattle.serial.specs.Model.{State, step, answer, after}
-use Rattle.serial.specs.History.{Event, History, Run, start, then, Admitted}
-use Rattle.serial.specs.Requests.{asked}
-use Rattle.serial.specs.Writes.{changes_by, changes_from, state_after, answers_from}
+use Rattle.serial.specs.History.{Event, History, effect_of, committed_with, Run, start, then, Admitted}
+use Rattle.serial.specs.Requests.{Asked, asks_open, asks_call, asks_commit, asks_give_up, asked}
+use Rattle.serial.specs.Writes.{NoneCommitted, changes_by, changes_from, state_after, answers_from}
 use Rattle.serial.specs.Day.{Strikes, StruckIn, RunsAreSerial}
 use Rattle.serial.specs.OneDay.{recorded, history, morning, Moment, IsMomentOf, DayDone, Worked, EveryDayIsDone}
 use Rattle.serial.proofs.Main.{day_is_serial}
@@ -178,3 +179,22 @@ worked_day {S} laws {before} {after} {rs} {bs} {σ} w ends adm = day_done S laws
 
 pub every_day_is_done : EveryDayIsDone
 every_day_is_done S laws before adm requests answers evening w = worked_day laws w refl adm
+
+-- where none of them is a commit that was granted, they write nothing
+one_writes_nothing : (σ : State) (k : Asked) (a : Answer) → committed_with (effect_of k a) [] ≡ [] → changes_by σ k a ≡ []
+one_writes_nothing σ (asks_open u) a none = refl
+one_writes_nothing σ (asks_call t c) a none = refl
+one_writes_nothing σ (asks_give_up t) a none = refl
+one_writes_nothing σ (asks_commit t) (Granted n) none = cc
+one_writes_nothing σ (asks_commit t) (Refused f) none = refl
+one_writes_nothing σ (asks_commit t) (Wait u) none = refl
+one_writes_nothing σ (asks_commit t) (Aborted b p) none = refl
+
+pub nothing_written : (S : Setup) (σ : State) (rs : List Request) (bs : List Answer) → bs ≡ answers_from S σ rs → NoneCommitted rs bs → changes_from S σ rs ≡ []
+unfolding changes_from answers_from
+nothing_written S σ [] bs told none = refl
+nothing_written S σ (r ∷ rs) [] told none = cc
+nothing_written S σ (r ∷ rs) (b ∷ bs) told none =
+    let first : answer S σ r ≡ b = cc in
+    let rest : bs ≡ answers_from S (after S σ r) rs = cc in
+    ap₂ (λ ks ls. ks ++ ls) (ap (changes_by σ (asked r)) first ∙ one_writes_nothing σ (asked r) b none.0) (nothing_written S (after S σ r) rs bs rest none.1)

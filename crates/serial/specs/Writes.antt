@@ -1,5 +1,5 @@
 -- What a day writes into its two stores: each commit the changes of its transaction, and nothing else anything.
-use Rattle.std.specs.Prelude.{ℕ, List, [], ◌∷◌, ◌++◌}
+use Rattle.std.specs.Prelude.{◌≡◌, ℕ, List, [], ◌∷◌, ◌++◌}
 use Rattle.protocol.specs.declared.answer.Answer.{Answer}
 use Rattle.protocol.specs.declared.answer.Answer.TheVariants.{Granted}
 use Rattle.protocol.specs.declared.policy.Object.{Object}
@@ -9,7 +9,7 @@ use Rattle.serial.specs.Words.{Setup, Change}
 use Rattle.serial.specs.Requests.{Asked, asks_commit, asked}
 use Rattle.serial.specs.Model.{State, Slot, free, open_slot, aborted_slot, find, changed, answer, after}
 use Rattle.serial.specs.Serial.{Entry, Transcript}
-use Rattle.serial.specs.History.{History, transcript, committed}
+use Rattle.serial.specs.History.{History, effect_of, transcript, committed_with, committed}
 
 -- The changes of a transaction by its granted calls, the newest first: one for each cell or policy, since a later value replaces an earlier one
 unfoldable pub workspace : List Entry → List Change
@@ -60,6 +60,11 @@ changes_by σ _ a = []
 unfoldable pub changes_from : Setup → State → List Request → List Change
 changes_from S σ [] = []
 changes_from S σ (r ∷ rs) = changes_by σ (asked r) (answer S σ r) ++ changes_from S (after S σ r) rs
+
+-- None of the requests is a commit that was granted.
+abbrev pub NoneCommitted : List Request → List Answer → Type 0
+NoneCommitted (r ∷ rs) (b ∷ bs) = (committed_with (effect_of (asked r) b) [] ≡ []) × NoneCommitted rs bs
+NoneCommitted rs bs = Unit {0}
 
 -- The state after them, and their answers
 unfoldable pub state_after : Setup → State → List Request → State

@@ -1,5 +1,6 @@
 // An engine is made, and works whole lists of requests.
 ghost use Rattle.std.specs.Prelude.{◌≡◌, min, length, take, drop};
+ghost use Rattle.serial.specs.Writes.{NoneCommitted};
 ghost use Rattle.setup.specs.Admission.{setup_check};
 ghost use Rattle.engine.specs.Stores.{lists_of};
 ghost use Rattle.engine.specs.Engines.{state_of, setup_of, Works, Steps};
@@ -83,6 +84,7 @@ impl<'a, 'o, 'p, C: Store, R: Store, O: RightsOrder> Engine<'a, 'o, 'p, C, R, O>
     pub fn work(&mut self, requests: &[Request], answers: &mut [Answer]) -> usize
         ensures count { result ≡ min (length requests.now) (length answers.old) }
         ensures works { Works C.Store R.Store O.RightsOrder self.old (take result requests.now) (take result answers.new) self.new }
+        ensures stores_stay { NoneCommitted (take result requests.now) (take result answers.new) → (self.new.cells.now ≡ self.old.cells.now) × (self.new.rights.now ≡ self.old.rights.now) }
         ensures other_answers { drop result answers.new ≡ drop result answers.old }
     {
         let count = requests.len().min(answers.len());
