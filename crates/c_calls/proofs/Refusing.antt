@@ -1,20 +1,24 @@
--- By the number that C is told: other than 0 and 12, nothing was run.
-use Rattle.std.proofs.Common.{◌≢◌, ℕ, List, Ok, Err, Result, refl}
-use Rattle.protocol.specs.Refusals.{Outcome, answered, refused, refusal_number, outcome_by}
-use Rattle.serial.specs.Words.{Setup, Store}
-use Rattle.lines.proofs.Buffers.{exceeds_from}
-use Rattle.records.specs.Tapes.{tape_of}
-use Rattle.tape.specs.declared.error.TapeError.{TapeError}
-use Rattle.tape.specs.declared.error.TapeError.TheVariants.{OutOfMemory, SetUp, Lines}
-use Rattle.tape.specs.Runs.{tape_lines, Untouched}
-use Rattle.c_calls.specs.Numbers.{number_of, error_number}
+-- Refusals: of too many policies, and by the number that C is told.
+use Rattle.std.proofs.Common.{◌≡◌, ◌≢◌, ℕ, ◌<◌, true, false, List, [], length, Ok, Err, Result, refl, ap}
+use Rattle.std.specs.Prelude.{◌&&◌, nat_le}
+use Rattle.std.proofs.lemmas.Bool.{cond-false, lt-leb}
+use Rattle.protocol.specs.Refusals.{Outcome, answered, refused, outcome, ◌then◌}
+use Rattle.protocol.specs.declared.refusal.Refusal.{Refusal}
+use Rattle.serial.specs.Words.{Setup, Store, Change}
+use Rattle.tape.specs.Runs.{room_check, run_check}
+use Rattle.c_calls.specs.Numbers.{number_of}
 use Rattle.c_calls.specs.Runs.{RunsBy}
 
-pub untouched_by : (o : Outcome Setup) (before after : Store) (tape buffer buffer' : List ℕ) (r : Result ℕ TapeError) (same : Type 0) → RunsBy o before after tape buffer buffer' r → Untouched r same
-    → number_of (outcome_by error_number r) ≢ 0 → number_of (outcome_by error_number r) ≢ 12 → same
-untouched_by o before after tape buffer buffer' (Ok n) same ran kept some other = absurd (some refl)
-untouched_by o before after tape buffer buffer' (Err OutOfMemory) same ran kept some other = kept
-untouched_by o before after tape buffer buffer' (Err (SetUp f)) same ran kept some other = kept
-untouched_by (answered S) before after tape buffer buffer' (Err (Lines f)) same ran kept some other =
-    absurd (other (exceeds_from (tape_lines ran.answers (tape_of tape).fault) buffer (refusal_number f) ran.line_refused).0)
-untouched_by (refused k) before after tape buffer buffer' (Err (Lines f)) same ran kept some other = absurd ran
+pub too_many : (S : Setup) (before : Store) (tape buffer : List ℕ) → 64 < length S.policies → run_check S before tape buffer ≡ refused 14
+too_many S before tape buffer many =
+    let large : nat_le (length S.policies) 64 ≡ false = lt-leb (length S.policies) 64 many in
+    let either : (nat_le (length before.cells) 256 && nat_le (length S.policies) 64) ≡ false =
+    rw large (elim (nat_le (length before.cells) 256) as (λ b. (b && false) ≡ false) [ true ↦ refl | false ↦ refl ]) in
+    ap (λ o. o then room_check tape buffer) (cond-false _ _ _ either)
+
+-- Other than 0, nothing has changed.
+pub untouched_by : (o : Outcome Setup) (before after : Store) (wrote : List Change → Type 0) (tape buffer buffer' : List ℕ) (ran : Result ℕ Refusal)
+    → RunsBy o before after wrote tape buffer buffer' ran → number_of (outcome ran) ≢ 0 → (after ≡ before) × wrote [] × (buffer' ≡ buffer)
+untouched_by o before after wrote tape buffer buffer' (Ok n) runs some = absurd (some refl)
+untouched_by (answered S) before after wrote tape buffer buffer' (Err f) runs some = (runs.stores_stay, runs.nothing_written, runs.buffer_stays)
+untouched_by (refused k) before after wrote tape buffer buffer' (Err f) runs some = (runs.stores_stay, runs.nothing_written, runs.buffer_stays)

@@ -1,8 +1,6 @@
 -- Outcomes as C gets them: a number, and a value beside it.
 use Rattle.std.specs.Prelude.{ℕ}
-use Rattle.protocol.specs.Refusals.{Outcome, answered, refused, refusal_number}
-use Rattle.tape.specs.declared.error.TapeError.{TapeError}
-use Rattle.tape.specs.declared.error.TapeError.TheVariants.{OutOfMemory, SetUp, Lines}
+use Rattle.protocol.specs.Refusals.{Outcome, answered, refused}
 
 -- 0 where nothing is refused
 abbrev pub number_of : {A : Type 0} → Outcome A → ℕ
@@ -13,9 +11,3 @@ number_of (refused number) = number
 abbrev pub value_or : ℕ → Outcome ℕ → ℕ
 value_or other (answered value) = value
 value_or other (refused number) = other
-
--- Why a tape was not run, or not printed: its refusal, or want of memory.
-abbrev pub error_number : TapeError → ℕ
-error_number OutOfMemory = 255
-error_number (SetUp f) = refusal_number f
-error_number (Lines f) = refusal_number f

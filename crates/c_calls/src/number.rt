@@ -1,25 +1,14 @@
 // The numbers by which C is told what a call came to.
 ghost use Rattle.std.specs.Prelude.{◌≡◌};
-ghost use Rattle.protocol.specs.Refusals.{outcome, outcome_by, refusal_number};
-ghost use Rattle.c_calls.specs.Numbers.{error_number, number_of, value_or};
+ghost use Rattle.protocol.specs.Refusals.{outcome, refusal_number};
+ghost use Rattle.c_calls.specs.Numbers.{number_of, value_or};
 
 use protocol::Refusal;
-use tape::TapeError;
 
 pub(crate) fn refusal_number(refusal: Refusal) -> u32
     ensures { result ≡ refusal_number refusal }
 {
     u32::from(refusal.number())
-}
-
-fn error_number(error: TapeError) -> u32
-    ensures { result ≡ error_number error }
-{
-    match error {
-        TapeError::OutOfMemory => 255,
-        TapeError::SetUp(refusal) => refusal_number(refusal),
-        TapeError::Lines(refusal) => refusal_number(refusal),
-    }
 }
 
 // 0, or the refusal's number.
@@ -32,19 +21,19 @@ pub(crate) fn answer(checked: Result<(), Refusal>) -> u32
     }
 }
 
-// 0 and how many bytes of lines there are, or the error's number and 0.
-pub(crate) fn told(ran: Result<usize, TapeError>, lines_used: &mut usize) -> u32
-    ensures number { result ≡ number_of (outcome_by error_number ran) }
-    ensures used { lines_used.new ≡ value_or 0 (outcome_by error_number ran) }
+// 0 and how many bytes of lines there are, or the refusal's number and 0.
+pub(crate) fn told(ran: Result<usize, Refusal>, lines_used: &mut usize) -> u32
+    ensures number { result ≡ number_of (outcome ran) }
+    ensures used { lines_used.new ≡ value_or 0 (outcome ran) }
 {
     match ran {
         Ok(used) => {
             *lines_used = used;
             0
         }
-        Err(error) => {
+        Err(refusal) => {
             *lines_used = 0;
-            error_number(error)
+            refusal_number(refusal)
         }
     }
 }

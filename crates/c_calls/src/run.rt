@@ -1,80 +1,79 @@
 // A tape run on two stores.
 ghost use Rattle.std.specs.Prelude.{◌≡◌, true};
-ghost use Rattle.engine.specs.Stores.{lists_of, Lent};
+ghost use Rattle.engine.specs.Stores.{lists_of, Lent, Wrote};
 ghost use Rattle.engine.specs.Beginning.{setup_with};
 ghost use Rattle.log_store.specs.Log.{holds_log};
-ghost use Rattle.tape.specs.Runs.{RunsTape, Untouched};
+ghost use Rattle.tape.specs.Runs.{RunsTape};
 ghost use Rattle.c_calls.specs.Policies.{policies_of};
 ghost use Rattle.c_calls.specs.Setups.{setup_by, setup_on_logs};
-ghost use Rattle.c_calls.specs.Runs.{lists, lists_on_logs, RunsBy};
+ghost use Rattle.c_calls.specs.Runs.{lists, lists_wrote, lists_on_logs, logs_wrote, RunsBy};
 
 use crate::check::check_logs;
 use crate::policy::{PolicyEntry, PolicyList};
 use log_store::LogStore;
 use protocol::Refusal;
 use rights::{LadderOrder, RightsOrder, VectorOrder};
-use std::alloc::Global;
 use stores::{SliceStore, Store};
-use tape::{TapeError, run_tape};
+use tape::run_tape;
 
 // On any two stores, by an order of one's own.
 fn run_entries<C: Store, R: Store, O: RightsOrder>(
-    heap: Global,
     order: &O,
     cells: &mut C,
     rights: &mut R,
     entries: &[PolicyEntry],
     tape: &[u8],
     lines: &mut [u8],
-) -> Result<usize, TapeError>
-    ensures runs { RunsTape (setup_with O.RightsOrder order.now (policies_of entries.now)) (lists_of C.Store R.Store cells.old rights.old) (lists_of C.Store R.Store cells.new rights.new) tape.now lines.old lines.new result }
+) -> Result<usize, Refusal>
+    ensures runs { RunsTape (setup_with O.RightsOrder order.now (policies_of entries.now))
+        (lists_of C.Store R.Store cells.old rights.old) (lists_of C.Store R.Store cells.new rights.new)
+        (Wrote C.Store R.Store cells.old rights.old cells.new rights.new) tape.now lines.old lines.new result }
     ensures lent { Lent C.Store R.Store cells.old rights.old cells.new rights.new }
-    ensures untouched { Untouched result ((cells.new ≡ cells.old) × (rights.new ≡ rights.old)) }
 {
-    let policies = PolicyList::new(entries).map_err(TapeError::SetUp)?;
-    run_tape(heap, tape, cells, rights, order, policies.as_slice(), lines)
+    let policies = PolicyList::new(entries)?;
+    run_tape(tape, cells, rights, order, policies.as_slice(), lines)
 }
 
 // By the order of the thresholds. Two arms, since each order is a type of its own.
 fn run_by<C: Store, R: Store>(
-    heap: Global,
     thresholds: &[u32],
     cells: &mut C,
     rights: &mut R,
     entries: &[PolicyEntry],
     tape: &[u8],
     lines: &mut [u8],
-) -> Result<usize, TapeError>
-    ensures runs { RunsBy (setup_by thresholds.now (policies_of entries.now)) (lists_of C.Store R.Store cells.old rights.old) (lists_of C.Store R.Store cells.new rights.new) tape.now lines.old lines.new result }
+) -> Result<usize, Refusal>
+    ensures runs { RunsBy (setup_by thresholds.now (policies_of entries.now))
+        (lists_of C.Store R.Store cells.old rights.old) (lists_of C.Store R.Store cells.new rights.new)
+        (Wrote C.Store R.Store cells.old rights.old cells.new rights.new) tape.now lines.old lines.new result }
     ensures lent { Lent C.Store R.Store cells.old rights.old cells.new rights.new }
-    ensures untouched { Untouched result ((cells.new ≡ cells.old) × (rights.new ≡ rights.old)) }
 {
     match thresholds {
-        [] => run_entries(heap, &VectorOrder, cells, rights, entries, tape, lines),
+        [] => run_entries(&VectorOrder, cells, rights, entries, tape, lines),
         [read, write, restrict] => {
-            let order = LadderOrder::new(*read, *write, *restrict).map_err(TapeError::SetUp)?;
-            run_entries(heap, &order, cells, rights, entries, tape, lines)
+            let order = LadderOrder::new(*read, *write, *restrict)?;
+            run_entries(&order, cells, rights, entries, tape, lines)
         }
-        _ => Err(TapeError::SetUp(Refusal::BadThreshold)),
+        _ => Err(Refusal::BadThreshold),
     }
 }
 
 // On two lists of numbers, in place.
 pub(crate) fn run_on_slices(
-    heap: Global,
     thresholds: &[u32],
     cells: &mut [u32],
     rights: &mut [u32],
     entries: &[PolicyEntry],
     tape: &[u8],
     lines: &mut [u8],
-) -> Result<usize, TapeError>
-    ensures { RunsBy (setup_by thresholds.now (policies_of entries.now)) (lists cells.old rights.old) (lists cells.new rights.new) tape.now lines.old lines.new result }
+) -> Result<usize, Refusal>
+    ensures { RunsBy (setup_by thresholds.now (policies_of entries.now))
+        (lists cells.old rights.old) (lists cells.new rights.new)
+        (lists_wrote (lists cells.old rights.old) (lists cells.new rights.new)) tape.now lines.old lines.new result }
 {
     let mut cell_store = SliceStore::new(cells);
     let mut right_store = SliceStore::new(rights);
     run_by(
-        heap,
         thresholds,
         &mut cell_store,
         &mut right_store,
@@ -86,7 +85,6 @@ pub(crate) fn run_on_slices(
 
 // On two logs that were checked.
 fn run_on_sound_logs(
-    heap: Global,
     thresholds: &[u32],
     cells: &mut [u8],
     cell_count: usize,
@@ -95,18 +93,17 @@ fn run_on_sound_logs(
     entries: &[PolicyEntry],
     tape: &[u8],
     lines: &mut [u8],
-) -> Result<usize, TapeError>
+) -> Result<usize, Refusal>
     requires cells { holds_log cell_count cells.old ≡ true }
     requires rights { holds_log right_count rights.old ≡ true }
-    ensures runs { RunsBy (setup_by thresholds.now (policies_of entries.now)) (lists_on_logs cell_count cells.old right_count rights.old) (lists_on_logs cell_count cells.new right_count rights.new) tape.now lines.old lines.new result }
-    ensures cells_sound { holds_log cell_count cells.new ≡ true }
-    ensures rights_sound { holds_log right_count rights.new ≡ true }
-    ensures untouched { Untouched result ((cells.new ≡ cells.old) × (rights.new ≡ rights.old)) }
+    ensures { RunsBy (setup_by thresholds.now (policies_of entries.now))
+        (lists_on_logs cell_count cells.old right_count rights.old)
+        (lists_on_logs cell_count cells.new right_count rights.new)
+        (logs_wrote cell_count cells.old cells.new right_count rights.old rights.new) tape.now lines.old lines.new result }
 {
     let mut cell_store = LogStore::new(cells, cell_count);
     let mut right_store = LogStore::new(rights, right_count);
     run_by(
-        heap,
         thresholds,
         &mut cell_store,
         &mut right_store,
@@ -118,7 +115,6 @@ fn run_on_sound_logs(
 
 // On two logs: what is refused of them, before the day's own set-up, changes no byte.
 pub(crate) fn run_on_logs(
-    heap: Global,
     thresholds: &[u32],
     cells: &mut [u8],
     cell_count: usize,
@@ -127,24 +123,24 @@ pub(crate) fn run_on_logs(
     entries: &[PolicyEntry],
     tape: &[u8],
     lines: &mut [u8],
-) -> Result<usize, TapeError>
-    ensures runs { RunsBy (setup_on_logs thresholds.now (policies_of entries.now) cell_count cells.old right_count rights.old) (lists_on_logs cell_count cells.old right_count rights.old) (lists_on_logs cell_count cells.new right_count rights.new) tape.now lines.old lines.new result }
+) -> Result<usize, Refusal>
+    ensures runs { RunsBy
+        (setup_on_logs thresholds.now (policies_of entries.now) cell_count cells.old right_count rights.old)
+        (lists_on_logs cell_count cells.old right_count rights.old)
+        (lists_on_logs cell_count cells.new right_count rights.new)
+        (logs_wrote cell_count cells.old cells.new right_count rights.old rights.new) tape.now lines.old lines.new result }
     ensures cells_sound { holds_log cell_count cells.new ≡ holds_log cell_count cells.old }
     ensures rights_sound { holds_log right_count rights.new ≡ holds_log right_count rights.old }
-    ensures untouched { Untouched result ((cells.new ≡ cells.old) × (rights.new ≡ rights.old)) }
 {
-    match check_logs(thresholds, cells, cell_count, rights, right_count) {
-        Ok(()) => run_on_sound_logs(
-            heap,
-            thresholds,
-            cells,
-            cell_count,
-            rights,
-            right_count,
-            entries,
-            tape,
-            lines,
-        ),
-        Err(refusal) => Err(TapeError::SetUp(refusal)),
-    }
+    check_logs(thresholds, cells, cell_count, rights, right_count)?;
+    run_on_sound_logs(
+        thresholds,
+        cells,
+        cell_count,
+        rights,
+        right_count,
+        entries,
+        tape,
+        lines,
+    )
 }
