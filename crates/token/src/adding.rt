@@ -1,6 +1,6 @@
 // How a program uses a token: it opens, goes on as long as it is granted what it asks, and ends the transaction either way.
-ghost use Rattle.std.specs.Prelude.{◌≡◌};
-ghost use Rattle.engine.specs.Engines.{state_of, setup_of, Keeps, Goes};
+ghost use Rattle.std.specs.Prelude.{◌≡◌, []};
+ghost use Rattle.engine.specs.Engines.{state_of, setup_of, Keeps, Writes, Goes};
 ghost use Rattle.token.specs.Adding.{adds, Added};
 
 use crate::token::Token;
@@ -18,7 +18,8 @@ pub fn add_to_cell<C: Store, R: Store, O: RightsOrder>(
     cell: u16,
     amount: u32,
 ) -> Result<Answer, Refusal>
-    ensures added { Added (setup_of O.RightsOrder engine.old) (state_of C.Store R.Store engine.old) subject policy cell amount result (state_of C.Store R.Store engine.new) }
+    ensures added { Added (setup_of O.RightsOrder engine.old) (state_of C.Store R.Store engine.old) subject policy cell amount
+        (Writes C.Store R.Store engine.old engine.new) result (state_of C.Store R.Store engine.new) }
     ensures same_setup { setup_of O.RightsOrder engine.new ≡ setup_of O.RightsOrder engine.old }
     ensures keeps_stores { Keeps C.Store R.Store engine.old engine.new }
 {
@@ -39,7 +40,7 @@ fn add<C: Store, R: Store, O: RightsOrder>(
     cell: u16,
     amount: u32,
 ) -> Answer
-    ensures { Goes C.Store R.Store O.RightsOrder engine.old (result, engine.new) (adds token.now.id policy cell amount (setup_of O.RightsOrder engine.old) (state_of C.Store R.Store engine.old)) }
+    ensures { Goes C.Store R.Store O.RightsOrder engine.old (result, engine.new) (adds token.now.id policy cell amount (setup_of O.RightsOrder engine.old) (state_of C.Store R.Store engine.old)) [] }
 {
     let deployed = token.deploy(engine, policy);
     let Answer::Granted(_) = deployed else {
