@@ -5,8 +5,8 @@
  * - Every pointer must point to as many elements as its count says. Nothing outside them is read or written.
  * - No two of the buffers may overlap, and nobody else may read or write them during the call.
  * - It answers a number: 0, or why it refuses or what it found. Where several reasons hold, the order in which they are asked is given.
- * - It keeps nothing between two calls, and gives back all memory that it takes.
- * - SETXULDA_NO_MEMORY is answered where malloc or realloc fails.
+ * - Where it refuses, no list, no log and no line has changed.
+ * - It takes no memory, and keeps nothing between two calls.
  */
 #ifndef SETXULDA_H
 #define SETXULDA_H
@@ -25,9 +25,6 @@ struct setxulda_policy {
     uint16_t kind;
     uint16_t number;
 };
-
-/* There was not enough memory. */
-#define SETXULDA_NO_MEMORY 255u
 
 /* The orders of rights. `threshold_count` 0 takes the vector order, 3 the ladder with thresholds for read, write and restrict, in this order.
  * Any other count, and a threshold outside 1 to 100, is refusal 17. */
@@ -49,8 +46,7 @@ uint32_t setxulda_check_setup(const uint32_t *thresholds, size_t threshold_count
  *    9  the record is cut short
  *   10  no request has its tag
  *   11  its length is not the tag's
- *   13  the tape has more than 60,000 bytes; then both are 0
- * or SETXULDA_NO_MEMORY, and sets both to 0. */
+ *   13  the tape has more than 60,000 bytes; then both are 0 */
 uint32_t setxulda_check_tape(const uint8_t *tape, size_t tape_len, uint32_t *record, uint32_t *first_byte);
 
 /* Whether the bytes hold a log of `count` numbers. Changes nothing. Answers 0, or 18 where they do not, or where `count` is above 256. */
@@ -65,12 +61,13 @@ uint32_t setxulda_read_log(const uint8_t *log, size_t log_len, size_t count, siz
 /* Runs a tape as a day on cells and rights, which stand in the two lists and are changed in place. Each request up to the tape's end, or its first fault, is
  * answered by a line; a fault has a last line of its own.
  * Answers 0: the day was run, and its lines are the first *lines_used bytes of `lines`; later bytes stay.
- * Else *lines_used is 0, and the answer is the first of these that holds:
- *   17, 14, 15, 16  as of setxulda_check_setup
- *   SETXULDA_NO_MEMORY
- *       nothing was run, and neither list nor `lines` has changed
- *   12  the day was run, as the lists show, but its lines exceed `lines`, which has the lines of the first answers, as many as fit; later bytes stay.
- *       In 170,000 bytes the lines of every tape have room */
+ * Else *lines_used is 0, nothing was run, and neither a list nor `lines` has changed. The answer is the first of these that holds:
+ *   17  the thresholds are of neither order
+ *   14  more than 256 cells, or more than 64 policies
+ *   15  not as many policies as rights, or a policy whose object is not there
+ *   16  a number among the rights that is no right of the order
+ *   12  `lines_len` is less than the lines could take: 28 for a tape of more than 60,000 bytes, else 14 for each whole five of its bytes, and 28.
+ *       170,000 bytes suffice for every tape */
 uint32_t setxulda_run_tape(const uint32_t *thresholds, size_t threshold_count,
                            uint32_t *cells, size_t cell_count,
                            uint32_t *rights, size_t right_count,
@@ -78,10 +75,14 @@ uint32_t setxulda_run_tape(const uint32_t *thresholds, size_t threshold_count,
                            const uint8_t *tape, size_t tape_len,
                            uint8_t *lines, size_t lines_len, size_t *lines_used);
 
-/* The same on two logs, of `cell_count` and `right_count` numbers, each in the caller's bytes. Whatever is answered, a sound log is a sound log afterwards.
- * Answers 17 first, then
- *   18  the cells' bytes hold no log of `cell_count` numbers, or the rights' none of `right_count`; nothing was run, and nothing has changed
- * and then as setxulda_run_tape. */
+/* The same on two logs, of `cell_count` and `right_count` numbers, each in the caller's bytes. Each commit writes its transaction's changes into the logs, and nothing
+ * else is written; so a sound log stays one.
+ * Answers 0 as setxulda_run_tape does. Else *lines_used is 0, nothing was run, and neither a log nor `lines` has changed. The answer is the first of these that holds:
+ *   17  the thresholds are of neither order
+ *   18  the cells' bytes hold no log of `cell_count` numbers
+ *   18  the rights' bytes hold no log of `right_count` numbers
+ *   14, 15, 16, and then 12
+ *       as of setxulda_run_tape, by the numbers that the logs hold */
 uint32_t setxulda_run_tape_on_logs(const uint32_t *thresholds, size_t threshold_count,
                                    uint8_t *cells_log, size_t cells_log_len, size_t cell_count,
                                    uint8_t *rights_log, size_t rights_log_len, size_t right_count,

@@ -5,11 +5,14 @@
 #include <stdio.h>
 #include <string.h>
 
+/* How many bytes a run asks for the lines of the day: its tape has 45 bytes, nine times five. */
+#define ROOM (14 * 9 + 28)
+
 /* A buffer between guard bytes, which no call may change. */
 #define GUARD 16
 struct guarded {
     uint8_t before[GUARD];
-    uint8_t bytes[64];
+    uint8_t bytes[ROOM];
     uint8_t after[GUARD];
 };
 
@@ -91,8 +94,8 @@ static void on_logs(struct guarded *lines, struct guarded *cells, struct guarded
     rights->bytes[3] = 6;
     rights->bytes[7] = 7;
     uint32_t number = setxulda_run_tape_on_logs(vector_order, 0, cells->bytes, cells_len, 4, rights->bytes, rights_len, 2, policies, 2, tape, sizeof tape,
-                                                lines->bytes, 40, &used);
-    printf("on logs, 40 bytes for lines: %u, %u bytes\n%s", (unsigned)number, (unsigned)used, (const char *)lines->bytes);
+                                                lines->bytes, ROOM, &used);
+    printf("on logs, %u bytes for lines: %u, %u bytes\n%s", (unsigned)ROOM, (unsigned)number, (unsigned)used, (const char *)lines->bytes);
     show_log("cells", cells, cells_len, 4);
     show_log("rights", rights, rights_len, 2);
     printf("the logs: %u, %u\n", (unsigned)setxulda_check_log(cells->bytes, cells_len, 4), (unsigned)setxulda_check_log(rights->bytes, rights_len, 2));
@@ -104,7 +107,7 @@ static void refusals(void)
     const struct setxulda_policy unknown[] = {{1, 0, 0}, {9, 7, 0}};
     const uint8_t damaged[] = {1, 0, 2, 0, 1, 9, 0, 0};
     uint32_t cells[4] = {0, 0, 0, 0}, rights[2] = {6, 7}, record = 77, first_byte = 77;
-    uint8_t lines[40], log[17] = {0}, other_log[17] = {0};
+    uint8_t lines[ROOM], log[17] = {0}, other_log[17] = {0};
     size_t used = 1;
 
     printf("the day's set-up: %u\n", (unsigned)setxulda_check_setup(vector_order, 0, cells, 4, rights, 2, policies, 2));
@@ -133,11 +136,11 @@ static void refusals(void)
 int main(void)
 {
     struct guarded lines, cells, rights;
-    on_lists(&lines, 40);
+    on_lists(&lines, ROOM);
     int whole = is_whole(&lines);
     on_logs(&lines, &cells, &rights);
     whole = whole && is_whole(&lines) && is_whole(&cells) && is_whole(&rights);
-    on_lists(&lines, 10);
+    on_lists(&lines, ROOM - 1);
     whole = whole && is_whole(&lines);
     refusals();
     printf("bytes round the buffers: %s\n", whole ? "as they were" : "changed");
