@@ -24,16 +24,13 @@ fn print_lines(rt: &HostRuntime) -> anyhow::Result<ExitCode> {
 }
 
 fn main(rt: HostRuntime) -> anyhow::Result<ExitCode> {
-    let mut arguments = env::args(&rt)?.skip(1);
-    match (arguments.next(), arguments.next()) {
-        (None, _) => print_lines(&rt),
-        (Some(argument), None) if argument.as_str() == "--help" => {
-            println!(rt; "{USAGE}{HELP}")?;
-            Ok(ExitCode::SUCCESS)
-        }
-        _ => {
-            rt.eprintln(USAGE)?;
-            Ok(ExitCode::FAILURE)
-        }
+    let Some(argument) = env::args(&rt)?.nth(1) else {
+        return print_lines(&rt);
+    };
+    if argument.as_str() == "--help" {
+        println!(rt; "{USAGE}{HELP}")?;
+        return Ok(ExitCode::SUCCESS);
     }
+    eprintln!(rt; "daytape: unknown argument {argument}\n{USAGE}")?;
+    Ok(ExitCode::FAILURE)
 }

@@ -36,14 +36,18 @@ fn print_day(rt: &HostRuntime, path: &str) -> anyhow::Result<ExitCode> {
     }
 }
 
+fn run(rt: &HostRuntime, argument: &str) -> anyhow::Result<ExitCode> {
+    if argument == "--help" {
+        println!(rt; "{USAGE}{HELP}")?;
+        return Ok(ExitCode::SUCCESS);
+    }
+    print_day(rt, argument)
+}
+
 fn main(rt: HostRuntime) -> anyhow::Result<ExitCode> {
     let mut arguments = env::args(&rt)?.skip(1);
     match (arguments.next(), arguments.next()) {
-        (Some(argument), None) if argument.as_str() == "--help" => {
-            println!(rt; "{USAGE}{HELP}")?;
-            Ok(ExitCode::SUCCESS)
-        }
-        (Some(path), None) => print_day(&rt, path.as_str()),
+        (Some(argument), None) => run(&rt, argument.as_str()),
         _ => {
             rt.eprintln(USAGE)?;
             Ok(ExitCode::FAILURE)

@@ -45,7 +45,7 @@ pub(crate) fn check_make(make: Make, numbers: &[u32]) -> Result<(), Refusal>
     }
 }
 
-// Set-up's check, of the numbers that the stores are to hold. It speaks of nothing but the numbers, so that no store need be made for it.
+// Set-up's check. It speaks of the numbers alone, so stores on the file's own serve for it, whatever the make.
 pub(crate) fn check_numbers(
     cells: &mut [u32],
     rights: &mut [u32],

@@ -20,16 +20,13 @@ fn print_listing(rt: &HostRuntime) -> anyhow::Result<ExitCode> {
 }
 
 fn main(rt: HostRuntime) -> anyhow::Result<ExitCode> {
-    let mut arguments = env::args(&rt)?.skip(1);
-    match (arguments.next(), arguments.next()) {
-        (None, _) => print_listing(&rt),
-        (Some(argument), None) if argument.as_str() == "--help" => {
-            println!(rt; "{USAGE}{HELP}")?;
-            Ok(ExitCode::SUCCESS)
-        }
-        _ => {
-            rt.eprintln(USAGE)?;
-            Ok(ExitCode::FAILURE)
-        }
+    let Some(argument) = env::args(&rt)?.nth(1) else {
+        return print_listing(&rt);
+    };
+    if argument.as_str() == "--help" {
+        println!(rt; "{USAGE}{HELP}")?;
+        return Ok(ExitCode::SUCCESS);
     }
+    eprintln!(rt; "tapedump: unknown argument {argument}\n{USAGE}")?;
+    Ok(ExitCode::FAILURE)
 }
