@@ -1,6 +1,6 @@
 // A tape as a day, on lists and on logs.
 use crate::check::check_eq;
-use crate::day::{GUARD, POLICIES, TAPE};
+use crate::short_day::{GUARD, POLICIES, TAPE};
 use crate::{setxulda_run_tape, setxulda_run_tape_on_logs};
 
 const USED_GUARD: usize = 0xa5a5_a5a5_a5a5_a5a5;
