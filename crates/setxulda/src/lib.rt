@@ -13,13 +13,13 @@ ghost use Rattle.c_calls.specs.Runs.{lists, lists_wrote, lists_on_logs, logs_wro
 #[cfg(test)]
 mod check;
 #[cfg(test)]
-mod day;
-#[cfg(test)]
 mod log_tests;
 #[cfg(test)]
 mod run_tests;
 #[cfg(test)]
 mod setup_tests;
+#[cfg(test)]
+mod short_day;
 #[cfg(test)]
 mod tape_tests;
 

@@ -1,6 +1,6 @@
 // Logs: base numbers of four bytes, the high byte first, and places of nine bytes, of which a free one has tag 0.
 use crate::check::check_eq;
-use crate::day::GUARD;
+use crate::short_day::GUARD;
 use crate::{setxulda_check_log, setxulda_read_log};
 use std::process::Abort;
 

@@ -2,7 +2,7 @@
 ghost use Rattle.std.specs.Prelude.{◌≤◌, length};
 
 use crate::check::check_eq;
-use crate::day::{GUARD, LOG_TAPE, POLICIES, TAPE};
+use crate::short_day::{GUARD, LOG_TAPE, POLICIES, TAPE};
 use crate::{setxulda_run_tape, setxulda_run_tape_on_logs};
 use std::process::Abort;
 

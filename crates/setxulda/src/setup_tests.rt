@@ -1,7 +1,7 @@
 // Whether a day can begin.
 use crate::check::check_eq;
-use crate::day::{GUARD, POLICIES};
 use crate::setxulda_check_setup;
+use crate::short_day::{GUARD, POLICIES};
 use c_calls::PolicyEntry;
 use std::process::Abort;
 

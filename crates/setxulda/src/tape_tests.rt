@@ -1,6 +1,6 @@
 // Whether a tape is sound, and where its first fault stands.
 use crate::check::check_eq;
-use crate::day::{GUARD, TAPE};
+use crate::short_day::{GUARD, TAPE};
 use crate::setxulda_check_tape;
 use std::process::Abort;
 
