@@ -1,17 +1,36 @@
 // Runs the tape on standard input as a day, and prints a line for each answer.
 #![tactic(auto)]
 
+use std::env;
 use std::io::{Read, Write};
-use tape::lines_of_tape;
+use std::process::ExitCode;
+use tape::{ROOM, lines_of_tape};
 
-fn run(rt: &HostRuntime) -> anyhow::Result<()> {
-    let mut bytes = Vec::new(rt.alloc());
-    rt.stdin().read_to_end(&mut bytes)?;
-    let lines = lines_of_tape(rt.alloc(), bytes.as_slice())?;
+const USAGE: &str = "usage: daytape < TAPE";
+
+const HELP: &str = "
+Runs the tape on standard input as a day on four cells, and prints a line for each answer, and the line of the tape's fault.";
+
+fn print_lines(rt: &HostRuntime) -> anyhow::Result<ExitCode> {
+    let mut tape = Vec::new(rt.alloc());
+    rt.stdin().read_to_end(&mut tape)?;
+    let mut lines = vec![in rt.alloc(); 0; ROOM]?;
+    match lines_of_tape(tape.as_slice(), lines.as_mut_slice()) {
+        Ok(length) => lines.truncate(length),
+        Err(_) => unreachable(),
+    }
     rt.stdout().write_all(lines.as_slice())?;
-    Ok(())
+    Ok(ExitCode::SUCCESS)
 }
 
-fn main(rt: HostRuntime) -> anyhow::Result<()> {
-    run(&rt)
+fn main(rt: HostRuntime) -> anyhow::Result<ExitCode> {
+    let Some(argument) = env::args(&rt)?.nth(1) else {
+        return print_lines(&rt);
+    };
+    if argument.as_str() == "--help" {
+        println!(rt; "{USAGE}{HELP}")?;
+        return Ok(ExitCode::SUCCESS);
+    }
+    eprintln!(rt; "daytape: unknown argument {argument}\n{USAGE}")?;
+    Ok(ExitCode::FAILURE)
 }

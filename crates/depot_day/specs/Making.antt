@@ -25,11 +25,11 @@ make_check Slice numbers = answered tt
 make_check Table numbers = table_check numbers
 make_check (Log places) numbers = cond (nat_le (length numbers) 256 && nat_le 1 places) (answered tt) (refused 18)
 
--- How many bytes a log takes with its places; no other store takes any, and none is made of more than 256 numbers.
+-- How many bytes a log takes with its places; no other store takes any.
 abbrev pub bytes_of : Make → List ℕ → ℕ
 bytes_of Slice numbers = 0
 bytes_of Table numbers = 0
-bytes_of (Log places) numbers = cond (nat_le (length numbers) 256) (4 * length numbers + 9 * places) 0
+bytes_of (Log places) numbers = 4 * length numbers + 9 * places
 
 -- The set-up of an order and a list of policies
 abbrev pub setup_on : OrderLine → List Policy → Setup

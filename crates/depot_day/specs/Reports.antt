@@ -26,8 +26,8 @@ module _ (S : Setup) (morning : Store) (tape : List ℕ) where
     pub day_done : DayDone S morning evening (tape_of tape).requests answers
     pub text_is : text ≡ tape_lines answers (tape_of tape).fault ++ store_lines evening
 
-  -- By what making all of it comes to. Of want of memory nothing is said.
+  -- By what making all of it comes to. Memory is wanting only where nothing is refused.
   abbrev pub ReportsDay : Outcome (Unit {0}) → Result (Vec ℕ Global) DayError → Type 0
   ReportsDay made (Ok text) = (made ≡ answered tt) × Reports (vec_items text)
-  ReportsDay made (Err OutOfMemory) = Unit {0}
+  ReportsDay made (Err OutOfMemory) = made ≡ answered tt
   ReportsDay made (Err (Refused f)) = made ≡ refused (refusal_number f)

@@ -3,9 +3,11 @@
 
 mod error;
 mod making;
+mod printed;
 mod report;
 mod run;
 
 pub use error::{DayError, DepotError};
+pub use printed::{LINE_MAX, Printed};
 pub use report::report_day;
 pub use run::run_depot;

@@ -19,7 +19,7 @@ fn push_request_line(
 ) -> Result<(), AllocError>
     ensures { OnOk result (string_bytes lines.new ≡ string_bytes lines.old ++ request_line number start request) }
 {
-    writeln!(lines, "{number} {start} {request}")
+    writeln!(lines, "{number} {start} {}", request.words().as_str())
 }
 
 // The lines of a tape's records.
@@ -42,7 +42,7 @@ fn fault_line(heap: Global, fault: Option<FaultValues>) -> Result<String, AllocE
 {
     match fault {
         None => Ok(String::new(heap)),
-        Some(values) => format!(in heap; "{values}\n"),
+        Some(values) => format!(in heap; "{}\n", values.words().as_str()),
     }
 }
 
