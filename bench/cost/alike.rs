@@ -17,9 +17,12 @@ struct Evening {
     rights: Vec<u32>,
 }
 
+// Each byte of a buffer before the day, so that one that a line does not reach is seen to stay.
+const BEFORE: u8 = b'.';
+
 fn by_ours(set_up: &SetUp, tape: &[u8], room: usize) -> Evening {
     let (mut cells, mut rights) = (set_up.cells.clone(), set_up.rights.clone());
-    let mut lines = vec![0; room];
+    let mut lines = vec![BEFORE; room];
     let (number, used) = ours::run_tape(&set_up.thresholds, &mut cells, &mut rights, &set_up.policies, tape, &mut lines);
     Evening { number, used, lines, cells, rights }
 }
@@ -27,26 +30,17 @@ fn by_ours(set_up: &SetUp, tape: &[u8], room: usize) -> Evening {
 fn by_hand(set_up: &SetUp, tape: &[u8], room: usize) -> Evening {
     let (mut cells, mut rights) = (set_up.cells.clone(), set_up.rights.clone());
     let mut lines = vec![];
-    let ran = day::run_tape(&set_up.thresholds, &mut cells, &mut rights, &set_up.policies, tape, &mut lines);
-    let number = match ran {
-        Ok(()) if lines.len() > room => 12,
-        Ok(()) => 0,
-        Err(refusal) => u32::from(refusal),
-    };
-    let used = if number == 0 { lines.len() } else { 0 };
-    // Of lines that exceed the buffer it has those that fit.
-    if number == 12 {
-        lines.truncate(room);
-        lines.truncate(lines.iter().rposition(|byte| *byte == b'\n').map_or(0, |end| end + 1));
-    }
-    lines.resize(room, 0);
+    let ran = day::run_tape(&set_up.thresholds, &mut cells, &mut rights, &set_up.policies, tape, room, &mut lines);
+    let number = ran.err().map_or(0, u32::from);
+    let used = lines.len();
+    lines.resize(room, BEFORE);
     Evening { number, used, lines, cells, rights }
 }
 
 fn print(name: &str, evening: &Evening) {
     let Evening { number, used, lines, cells, rights } = evening;
     println!("{name}: answered {number}, {used} bytes of lines, cells {cells:?}, rights {rights:?}, lines:");
-    println!("{}", String::from_utf8_lossy(lines).trim_end_matches('\0'));
+    println!("{}", String::from_utf8_lossy(lines).trim_end_matches(char::from(BEFORE)));
 }
 
 fn stop(number: u64, set_up: &SetUp, tape: &[u8], what: &str) {
@@ -75,6 +69,17 @@ fn compare(number: u64, set_up: &SetUp, tape: &[u8], room: usize) -> Evening {
     hand
 }
 
+/// How long the buffer for the lines is: mostly with room for every tape's, and else just enough for this tape, one byte less, or more or less than that.
+fn room(random: &mut Random, tape: &[u8]) -> usize {
+    let enough = day::most_bytes_of_lines(tape);
+    match random.below(16) {
+        0 => enough,
+        1 => enough - 1,
+        2 => random.below(2 * enough as u64) as usize,
+        _ => 170_000,
+    }
+}
+
 /// Compares so many days, and says what they were like.
 pub fn run(count: u64) {
     let mut kinds = Kinds::default();
@@ -84,7 +89,7 @@ pub fn run(count: u64) {
         let random = &mut Random::of_day(number);
         let set_up = set_up(random);
         let tape = tape(random, &set_up);
-        let room = if random.below(50) == 0 { random.below(200) as usize } else { 170_000 };
+        let room = room(random, &tape);
         let evening = compare(number, &set_up, &tape, room);
         kinds.count(&evening.lines[..evening.used]);
         *answered.entry(evening.number).or_default() += 1;

@@ -10,7 +10,7 @@ pub const ROOM: usize = 170_000;
 #[inline(never)]
 pub fn run_by_hand(set_up: &mut SetUp, tape: &[u8], lines: &mut Vec<u8>) {
     let SetUp { thresholds, cells, rights, policies } = set_up;
-    day::run_tape(thresholds, cells, rights, policies, tape, lines).expect("a set-up");
+    day::run_tape(thresholds, cells, rights, policies, tape, ROOM, lines).expect("a set-up and room");
 }
 
 #[inline(never)]

@@ -73,17 +73,30 @@ pub fn request(left: &[u8]) -> Result<(Request, usize), u8> {
     Ok((request, length))
 }
 
-/// Runs a tape on the two lists; the lines go behind those that are there.
+/// How many bytes of lines a tape could have, whatever its bytes are: it is shortest records with the longest answers, and then a fault of the longest numbers.
+pub fn most_bytes_of_lines(tape: &[u8]) -> usize {
+    let answer = b"S 65535 65535\n".len();
+    let fault = b"F 255 4294967295 4294967295\n".len();
+    let shortest_record = [7, 0, 2, 0, 1].len();
+    let answers = if tape.len() > 60_000 { 0 } else { tape.chunks_exact(shortest_record).count() };
+    answers * answer + fault
+}
+
+/// Runs a tape on the two lists; the lines go behind those that are there. Refuses what set-up refuses, and then too little room for what lines the tape could have.
 pub fn run_tape(
     thresholds: &[u32],
     cells: &mut [u32],
     rights: &mut [u32],
     rows: &[PolicyRow],
     tape: &[u8],
+    room: usize,
     lines: &mut Vec<u8>,
 ) -> Result<(), u8> {
     let (order, policies) = prepare(thresholds, cells.len(), rows)?;
     let mut engine = Engine::new(cells, rights, order, &policies)?;
+    if room < most_bytes_of_lines(tape) {
+        return Err(12);
+    }
     if tape.len() > 60_000 {
         lines.extend_from_slice(b"F 13 0 0\n");
         return Ok(());

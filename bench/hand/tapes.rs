@@ -4,6 +4,7 @@ mod day;
 mod engine;
 mod kinds;
 mod random;
+use day::SetUp;
 use kinds::Kinds;
 use random::{Random, four_cells, tape};
 use std::io::Write;
@@ -17,10 +18,11 @@ fn by_daytape(program: &str, tape: &[u8]) -> std::io::Result<Vec<u8>> {
     Ok(child.wait_with_output()?.stdout)
 }
 
+/// With the room of daytape.
 fn by_hand(tape: &[u8]) -> Vec<u8> {
-    let mut set_up = four_cells();
+    let SetUp { thresholds, mut cells, mut rights, policies } = four_cells();
     let mut lines = vec![];
-    day::run_tape(&set_up.thresholds, &mut set_up.cells, &mut set_up.rights, &set_up.policies, tape, &mut lines).expect("a set-up");
+    day::run_tape(&thresholds, &mut cells, &mut rights, &policies, tape, 170_000, &mut lines).expect("a set-up and room");
     lines
 }
 

@@ -69,8 +69,9 @@ fn a_line_that_exceeds_the_buffer_is_not_written(rt: HostRuntime) {
     check_eq(&rt, enough, *b"G 1\n");
 }
 
+// Lines of 5, 4 and 4 bytes: the last three bytes of 16 stay, 13 are just enough, and 12 take none of them.
 #[test]
-fn lines_one_after_another(rt: HostRuntime) {
+fn lines_are_written_whole_or_not_at_all(rt: HostRuntime) {
     let answers = [Granted(10), Wait(7), Granted(3)];
     let mut buffer = *b"................";
     check_eq(&rt, write_lines(&answers, &mut buffer), Ok(13));
@@ -78,17 +79,17 @@ fn lines_one_after_another(rt: HostRuntime) {
     let mut enough = *b".............";
     check_eq(&rt, write_lines(&answers, &mut enough), Ok(13));
     check_eq(&rt, enough, *b"G 10\nW 7\nG 3\n");
-    check_eq(&rt, write_lines(&[], &mut []), Ok(0));
+    let mut short = *b"............";
+    check_eq(&rt, write_lines(&answers, &mut short), Err(ExceedsBuffer));
+    check_eq(&rt, short, *b"............");
 }
 
-// The third line would fit where the second does not.
+// The first line alone would fit, and so would the third where the second does not.
 #[test]
-fn lines_that_fit_stay_written(rt: HostRuntime) {
+fn a_long_line_among_short_ones(rt: HostRuntime) {
     let answers = [Granted(1), Granted(4294967295), Wait(7)];
-    let mut buffer = *b"................";
-    check_eq(&rt, write_lines(&answers, &mut buffer), Err(ExceedsBuffer));
-    check_eq(&rt, buffer, *b"G 1\n............");
-    let mut short = *b"...";
+    let mut short = *b"................";
     check_eq(&rt, write_lines(&answers, &mut short), Err(ExceedsBuffer));
-    check_eq(&rt, short, *b"...");
+    check_eq(&rt, short, *b"................");
+    check_eq(&rt, write_lines(&[], &mut []), Ok(0));
 }

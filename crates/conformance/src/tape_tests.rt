@@ -2,7 +2,7 @@
 use crate::check::check_eq;
 use listing::list_tape;
 use protocol::Request;
-use records::{FaultValues, read_tape};
+use records::{FaultValues, Placed, RecordFault, TapeFault, TapeReader, read_tape, tape_fault};
 use std::alloc::Global;
 use std::process::Abort;
 
@@ -35,30 +35,66 @@ fn requests_in_order(rt: HostRuntime) {
     );
 }
 
+// A tape, how many requests it has, and its fault.
+type Row = (&'static [u8], usize, Option<FaultValues>);
+
+// A sound tape, and then one of each fault. What stands behind the first fault counts for nothing.
 #[test]
 fn faults_have_places(rt: HostRuntime) {
-    check_eq(&rt, reading(&rt, rt.alloc(), &[]), (0, None));
-    check_eq(
-        &rt,
-        reading(&rt, rt.alloc(), &[1, 0, 2, 0]),
-        (0, fault(9, 1, 0)),
-    );
-    // A record of 5 bytes, one of 7, and then a tag that is unknown.
-    check_eq(
-        &rt,
-        reading(
-            &rt,
-            rt.alloc(),
+    let rows: [Row; 7] = [
+        (&[], 0, None),
+        (&[1, 0, 2, 0, 1, 7, 0, 2, 0, 1], 2, None),
+        // One byte of a record of three or more, and one of a content of two.
+        (&[1, 0, 2, 0, 1, 7], 1, fault(9, 2, 5)),
+        (&[1, 0, 2, 0], 0, fault(9, 1, 0)),
+        // A record of 5 bytes, one of 7, and then a tag that is unknown.
+        (
             &[1, 0, 2, 0, 1, 2, 0, 4, 0, 1, 0, 0, 9, 0, 0],
+            2,
+            fault(10, 3, 12),
         ),
-        (2, fault(10, 3, 12)),
-    );
-    // What stands behind the first fault counts for nothing.
-    check_eq(
-        &rt,
-        reading(&rt, rt.alloc(), &[1, 0, 2, 0, 1, 7, 0, 1, 0, 9, 9, 9]),
-        (1, fault(11, 2, 5)),
-    );
+        // One byte more, and then one less, than a commit's content has.
+        (
+            &[1, 0, 2, 0, 1, 7, 0, 3, 0, 1, 9, 9, 9, 9],
+            1,
+            fault(11, 2, 5),
+        ),
+        (&[1, 0, 2, 0, 1, 7, 0, 1, 0, 9, 9, 9], 1, fault(11, 2, 5)),
+    ];
+    for (bytes, count, fault) in rows {
+        check_eq(&rt, reading(&rt, rt.alloc(), bytes), (count, fault));
+        check_eq(&rt, tape_fault(bytes).map(FaultValues::from), fault);
+    }
+}
+
+// An open, a deploy, and then a tag that is unknown, asked for twice.
+#[test]
+fn a_fault_is_told_again(rt: HostRuntime) {
+    let bytes = [1, 0, 2, 0, 1, 2, 0, 4, 0, 1, 0, 0, 9, 0, 0];
+    let mut reader = TapeReader::new(&bytes).expect(&rt, "a short tape");
+    let open = Request::Open { subject: 1 };
+    check_eq(&rt, reader.next_request(), Ok(Some(open)));
+    let deploy = Request::Deploy {
+        transaction: 1,
+        policy: 0,
+    };
+    check_eq(&rt, reader.next_request(), Ok(Some(deploy)));
+    let fault = TapeFault::Record(Placed {
+        fault: RecordFault::UnknownTag,
+        number: 3,
+        start: 12,
+    });
+    check_eq(&rt, reader.next_request(), Err(fault));
+    check_eq(&rt, reader.next_request(), Err(fault));
+}
+
+#[test]
+fn an_end_is_told_again(rt: HostRuntime) {
+    let mut reader = TapeReader::new(&[8, 0, 2, 1, 0]).expect(&rt, "a short tape");
+    let give_up = Request::GiveUp { transaction: 256 };
+    check_eq(&rt, reader.next_request(), Ok(Some(give_up)));
+    check_eq(&rt, reader.next_request(), Ok(None));
+    check_eq(&rt, reader.next_request(), Ok(None));
 }
 
 // 12,000 records of 5 bytes are 60,000 bytes.
@@ -67,17 +103,15 @@ fn at_most_60000_bytes(rt: HostRuntime) {
     let mut bytes = [1, 0, 2, 0, 1]
         .repeat(rt.alloc(), 12000)
         .expect(&rt, "memory");
-    check_eq(
-        &rt,
-        reading(&rt, rt.alloc(), bytes.as_slice()),
-        (12000, None),
-    );
+    let sound = reading(&rt, rt.alloc(), bytes.as_slice());
+    check_eq(&rt, sound, (12000, None));
+    check_eq(&rt, tape_fault(bytes.as_slice()), None);
     bytes.push(1).expect(&rt, "memory");
-    check_eq(
-        &rt,
-        reading(&rt, rt.alloc(), bytes.as_slice()),
-        (0, fault(13, 0, 0)),
-    );
+    let long = reading(&rt, rt.alloc(), bytes.as_slice());
+    check_eq(&rt, long, (0, fault(13, 0, 0)));
+    check_eq(&rt, tape_fault(bytes.as_slice()), Some(TapeFault::TooLong));
+    let refused = TapeReader::new(bytes.as_slice()).err();
+    check_eq(&rt, refused, Some(TapeFault::TooLong));
 }
 
 #[test]

@@ -19,3 +19,5 @@ mod steps;
 mod store_tests;
 #[cfg(test)]
 mod struck_tests;
+#[cfg(test)]
+mod tape_tests;
