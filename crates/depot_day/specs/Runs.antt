@@ -29,7 +29,10 @@ Prints file tape printed = PrintsDay (day_setup file) (morning_lists file) tape 
 -- By the text of the set-up file, and the tape. Memory is wanting for a file only where its text can be read, and for a day only where moreover nothing
 -- is refused.
 abbrev pub RunsDepot : List ℕ → List ℕ → Result Printed DepotError → Type 0
-RunsDepot text tape (Ok printed) = (file : SetupContent) × (content_of text ≡ Ok file) × Prints file tape (printed_bytes printed)
-RunsDepot text tape (Err OutOfMemory) = (file : SetupContent) × (content_of text ≡ Ok file) × (making_check file ≡ answered tt)
+RunsDepot text tape (Ok printed) =
+    (file : SetupContent) × (content_of text ≡ Ok file) × Prints file tape (printed_bytes printed)
+RunsDepot text tape (Err OutOfMemory) =
+    (file : SetupContent) × (content_of text ≡ Ok file) × (making_check file ≡ answered tt)
 RunsDepot text tape (Err (Unreadable file_error.OutOfMemory)) = IsReadable text
-RunsDepot text tape (Err (Unreadable (file_error.Unreadable number problem))) = content_of text ≡ Err (record { line = number; problem = problem })
+RunsDepot text tape (Err (Unreadable (file_error.Unreadable number problem))) =
+    content_of text ≡ Err (record { line = number; problem = problem })

@@ -46,7 +46,8 @@ fn report_on<C: Store, R: Store, O: RightsOrder>(
     order: &O,
     policies: &[Policy],
 ) -> Result<Vec<u8>, AllocError>
-    requires { setup_check (O.RightsOrder.right order.now) (C.Store.list cells.old) (R.Store.list rights.old) policies.now ≡ answered tt }
+    requires { setup_check (O.RightsOrder.right order.now)
+        (C.Store.list cells.old) (R.Store.list rights.old) policies.now ≡ answered tt }
     ensures { IfOk result (λ text. Reports (setup_with O.RightsOrder order.now policies.now)
         (lists_of C.Store R.Store cells.old rights.old) tape.now text.items) }
 {
@@ -66,7 +67,8 @@ fn report_on<C: Store, R: Store, O: RightsOrder>(
 /// Refuses, in this order, the order's thresholds (17), the cells' store and the rights' store (14 for a table of more than 64 numbers; 18 for a log of
 /// more than 256, or with no place), and what set-up refuses (14, 15, 16). Memory is taken only then: want of it is told only where nothing is refused.
 pub fn report_day(heap: Global, file: SetupFile, tape: &[u8]) -> Result<Vec<u8>, DayError>
-    ensures { ReportsDay (day_setup (setup_content file)) (morning_lists (setup_content file)) tape.now (making_check (setup_content file)) result }
+    ensures { let said = setup_content file in
+        ReportsDay (day_setup said) (morning_lists said) tape.now (making_check said) result }
 {
     let SetupFile {
         order,
