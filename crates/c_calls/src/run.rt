@@ -99,7 +99,8 @@ fn run_on_sound_logs(
     ensures { RunsBy (setup_by thresholds.now (policies_of entries.now))
         (lists_on_logs cell_count cells.old right_count rights.old)
         (lists_on_logs cell_count cells.new right_count rights.new)
-        (logs_wrote cell_count cells.old cells.new right_count rights.old rights.new) tape.now lines.old lines.new result }
+        (logs_wrote cell_count cells.old cells.new right_count rights.old rights.new)
+        tape.now lines.old lines.new result }
 {
     let mut cell_store = LogStore::new(cells, cell_count);
     let mut right_store = LogStore::new(rights, right_count);
@@ -128,7 +129,8 @@ pub(crate) fn run_on_logs(
         (setup_on_logs thresholds.now (policies_of entries.now) cell_count cells.old right_count rights.old)
         (lists_on_logs cell_count cells.old right_count rights.old)
         (lists_on_logs cell_count cells.new right_count rights.new)
-        (logs_wrote cell_count cells.old cells.new right_count rights.old rights.new) tape.now lines.old lines.new result }
+        (logs_wrote cell_count cells.old cells.new right_count rights.old rights.new)
+        tape.now lines.old lines.new result }
     ensures cells_sound { holds_log cell_count cells.new ≡ holds_log cell_count cells.old }
     ensures rights_sound { holds_log right_count rights.new ≡ holds_log right_count rights.old }
 {

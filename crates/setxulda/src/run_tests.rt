@@ -180,9 +180,9 @@ fn no_day_on_logs(rt: HostRuntime) {
     check_on_logs(&rt, damaged, 154, 18, damaged, &NO_LINES);
 }
 
-// Three commits on two logs without a free place. The first writes 25 to cell 0: the cells' list 1, 2, 3, 10 goes into the base, the field into the first place, and the
-// tag of the second becomes 0. The second commit writes 2 to right 0: the rights' list 6, 7 goes into the base, the field into the only place. The third writes 26 to
-// cell 0, into the second place.
+// Three commits on two logs without a free place. The first writes 25 to cell 0: the cells' list 1, 2, 3, 10 goes into the base, the field into the first place,
+// and the tag of the second becomes 0. The second commit writes 2 to right 0: the rights' list 6, 7 goes into the base, the field into the only place. The third
+// writes 26 to cell 0, into the second place.
 #[test]
 fn checkpoints_on_both_logs(rt: HostRuntime) {
     let thresholds: [u32; 0] = [];

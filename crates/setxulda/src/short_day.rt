@@ -28,8 +28,8 @@ pub(crate) const TAPE: [u8; 45] = *b"\
     \x07\x00\x02\x00\x02\
     \x07\x00\x02\x00\x01";
 
-// Transaction 1, of subject 1, writes 25 to cell 0 and commits. Transaction 2, of subject 9, sets policy 0 to right 2 and commits: who has it may still write. So transaction 3,
-// of subject 1, writes 26 to cell 0 and commits.
+// Transaction 1, of subject 1, writes 25 to cell 0 and commits. Transaction 2, of subject 9, sets policy 0 to right 2, which still permits to write, and commits.
+// Transaction 3, of subject 1, writes 26 to cell 0 and commits.
 pub(crate) const LOG_TAPE: [u8; 84] = *b"\
     \x01\x00\x02\x00\x01\
     \x02\x00\x04\x00\x01\x00\x00\
