@@ -32,7 +32,7 @@ fn print_day(rt: &HostRuntime, path: &str) -> anyhow::Result<ExitCode> {
             rt.stdout().write_all(printed.as_slice())?;
             Ok(ExitCode::SUCCESS)
         }
-        Err(error) => fail(rt, path, error),
+        Err(error) => fail(rt, path, error.message().as_str()),
     }
 }
 

@@ -8,6 +8,8 @@ use Rattle.serial.specs.Words.{Setup, Store, setup_of}
 use Rattle.setup.specs.Admission.{setup_check}
 use Rattle.makes.specs.Orders.{right_of, joined_of, allows_of}
 use Rattle.makes.specs.declared.order.AnyOrder.{AnyOrder}
+use Rattle.makes.specs.declared.store.AnyStore.{AnyStore}
+use Rattle.makes.specs.declared.store.AnyStore.TheVariants as any_store
 use Rattle.setup_file.specs.declared.setup.OrderLine.{OrderLine}
 use Rattle.setup_file.specs.declared.setup.OrderLine.TheVariants.{Vector, Ladder}
 use Rattle.setup_file.specs.declared.setup.Make.{Make}
@@ -24,6 +26,13 @@ abbrev pub make_check : Make → List ℕ → Outcome (Unit {0})
 make_check Slice numbers = answered tt
 make_check Table numbers = table_check numbers
 make_check (Log places) numbers = cond (nat_le (length numbers) 256 && nat_le 1 places) (answered tt) (refused 18)
+
+-- The store is of the make.
+abbrev pub IsMake : Make → AnyStore → Type 0
+IsMake Slice (any_store.Slice _) = Unit {0}
+IsMake Table (any_store.Table _) = Unit {0}
+IsMake (Log _) (any_store.Log _) = Unit {0}
+IsMake make store = ⊥
 
 -- How many bytes a log takes with its places; no other store takes any.
 abbrev pub bytes_of : Make → List ℕ → ℕ

@@ -24,7 +24,8 @@ pub enum DayError {
 pub enum DepotError {
     // The file is read and nothing is refused, but memory is wanting.
     OutOfMemory,
-    Unreadable(SetupFileError),
+    // The set-up file was not read.
+    SetupFile(SetupFileError),
 }
 
 impl From<AllocError> for DayError {
@@ -44,12 +45,12 @@ impl From<Refusal> for DayError {
 }
 
 impl From<SetupFileError> for DepotError {
-    ghost use Rattle.depot_day.specs.declared.error.DepotError.TheVariants.{Unreadable};
+    ghost use Rattle.depot_day.specs.declared.error.DepotError.TheVariants.{SetupFile};
 
-    ghost from_gives = { λ error r. r ≡ Unreadable error };
+    ghost from_gives = { λ error r. r ≡ SetupFile error };
 
     fn from(error: SetupFileError) -> DepotError {
-        DepotError::Unreadable(error)
+        DepotError::SetupFile(error)
     }
 }
 
@@ -64,7 +65,7 @@ impl DepotError {
                 message.push_str("there is not enough memory for the day");
                 message
             }
-            DepotError::Unreadable(error) => error.message(),
+            DepotError::SetupFile(error) => error.message(),
         }
     }
 }

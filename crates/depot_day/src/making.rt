@@ -5,7 +5,7 @@ ghost use Rattle.rights.specs.Orders.{verdict};
 ghost use Rattle.setup.specs.Admission.{setup_check};
 ghost use Rattle.makes.specs.Orders.{right_of};
 ghost use Rattle.makes.specs.Stores.{list_of};
-ghost use Rattle.depot_day.specs.Making.{order_check, make_check, IsOrderOf, bytes_of};
+ghost use Rattle.depot_day.specs.Making.{order_check, make_check, IsOrderOf, IsMake, bytes_of};
 
 use log_store::LogStore;
 use makes::{AnyOrder, AnyStore};
@@ -80,7 +80,8 @@ pub(crate) fn make_store<'a>(
 ) -> AnyStore<'a>
     requires checked { make_check make numbers.old ≡ answered tt }
     requires room { length bytes.old ≡ bytes_of make numbers.old }
-    ensures { list_of result ≡ numbers.old }
+    ensures make { IsMake make result }
+    ensures numbers { list_of result ≡ numbers.old }
 {
     match make {
         Make::Slice => AnyStore::Slice(SliceStore::new(numbers)),
