@@ -15,6 +15,7 @@ pub(crate) struct Field<'a> {
 }
 
 // The field at the front of the bytes, and the bytes behind it.
+#[inline(always)]
 pub(crate) fn take_field(bytes: &[u8]) -> Result<(Field<'_>, &[u8]), FieldFault>
     ensures parses { MatchResult result (λ p. field_of bytes.now ≡ Some (record { tag = p.0.tag; content = p.0.content.now; rest = p.1.now })) (λ e. (e ≡ FieldFault.Cut) × (field_of bytes.now ≡ None)) }
     ensures one_field { IfOk result (λ p. bytes.now ≡ field_bytes p.0.tag p.0.content.now ++ p.1.now) }

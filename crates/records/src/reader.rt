@@ -8,7 +8,9 @@ use crate::fault::{Placed, TapeFault};
 use crate::record::read_record;
 use protocol::Request;
 
-// The request at the front of what is left of a tape, and what is left behind it; a fault is told with these places.
+// The request at the front of what is left of a tape, and what is left behind it; a fault is told with these places. It and all that it calls are
+// inlined into the loop that runs a tape, where a record's request would else go through memory.
+#[inline(always)]
 fn record_at(left: &[u8], number: u32, start: u32) -> Result<(Request, &[u8]), TapeFault>
     ensures reads { MatchResult result
         (λ p. record_of left.now ≡ answered (p.0, p.1.now))
@@ -65,6 +67,7 @@ impl<'a> TapeReader<'a> {
 
     /// The request of the next record, or nothing at the tape's end. At the first record that cannot be read its fault, with the record's
     /// number and first byte, now and whenever it is asked again.
+    #[inline(always)]
     pub fn next_request(&mut self) -> Result<Option<Request>, TapeFault>
         ensures reads { MatchResult result
             (λ next. MatchOption next

@@ -34,6 +34,7 @@ fn two_and_long(bytes: [u8; 8]) -> (u16, u16, u32)
 }
 
 // The request that a content says under a tag. One arm for each, as each request has a content of its own.
+#[inline(always)]
 fn request_of(tag: u8, content: &[u8]) -> Result<Request, RecordFault>
     ensures says { outcome_by record_number result ≡ request_of tag content.now }
     ensures whole { IfOk result (λ request. field_bytes tag content.now ≡ record_bytes request) }
@@ -89,6 +90,7 @@ fn request_of(tag: u8, content: &[u8]) -> Result<Request, RecordFault>
 }
 
 /// The request at the front of the bytes, and the bytes behind its record; or why it cannot be read.
+#[inline(always)]
 pub fn read_record(bytes: &[u8]) -> Result<(Request, &[u8]), RecordFault>
     ensures reads { MatchResult result (λ p. record_of bytes.now ≡ answered (p.0, p.1.now)) (λ e. record_of bytes.now ≡ refused (record_number e)) }
     ensures one_record { IfOk result (λ p. bytes.now ≡ record_bytes p.0 ++ p.1.now) }
