@@ -2,7 +2,7 @@
 use Rattle.std.specs.Prelude.{◌≡◌, ℕ, List, [], ◌∷◌, Ok, Err, Result, codes, vec_items}
 use Rattle.protocol.specs.Refusals.{answered, refused}
 use Rattle.lines.specs.Lines.{line}
-use Rattle.setup_file.specs.SetupFiles.{SetupContent, IsReadable, content_of}
+use Rattle.setup_file.specs.SetupFiles.{SetupContent, content_of}
 use Rattle.setup_file.specs.declared.error.SetupFileError.TheVariants as file_error
 use Rattle.depot_day.specs.declared.error.DepotError.{DepotError}
 use Rattle.depot_day.specs.declared.error.DepotError.TheVariants.{OutOfMemory, SetupFile}
@@ -17,7 +17,7 @@ printed_bytes (Report text) = vec_items text
 printed_bytes (Refusal text) = text.items
 
 -- By the text of the set-up file, and the tape: the report of the day, or the line of what is refused while the order, the stores or the set-up are made.
--- Memory is wanting for a file only where its text can be read, and for a day only where moreover nothing is refused.
+-- Memory is wanting, for the file or for the day, only where the text can be read and nothing is refused.
 abbrev pub RunsDepot : List ℕ → List ℕ → Result Printed DepotError → Type 0
 RunsDepot text tape (Ok (Report report)) =
     (file : SetupContent) × (content_of text ≡ Ok file) × (making_check file ≡ answered tt)
@@ -27,6 +27,7 @@ RunsDepot text tape (Ok (Refusal said)) =
     × (n : ℕ) × (making_check file ≡ refused n) × (said.items ≡ line (codes "R") (n ∷ []))
 RunsDepot text tape (Err OutOfMemory) =
     (file : SetupContent) × (content_of text ≡ Ok file) × (making_check file ≡ answered tt)
-RunsDepot text tape (Err (SetupFile file_error.OutOfMemory)) = IsReadable text
+RunsDepot text tape (Err (SetupFile file_error.OutOfMemory)) =
+    (file : SetupContent) × (content_of text ≡ Ok file) × (making_check file ≡ answered tt)
 RunsDepot text tape (Err (SetupFile (file_error.Unreadable number problem))) =
     content_of text ≡ Err (record { line = number; problem = problem })

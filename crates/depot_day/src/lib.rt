@@ -3,6 +3,7 @@
 
 mod error;
 mod making;
+mod outline;
 mod printed;
 mod report;
 mod run;

@@ -1,8 +1,8 @@
 -- The numbers of a store, word by word.
-use Rattle.std.proofs.Common.{◌≡◌, ℕ, ◌+◌, ◌<◌, ◌≤◌, true, false, ◌&&◌, List, [], ◌∷◌, ◌++◌, length, get_or, drop, Some, None, Option, sym, refl, ap, ◌∙◌, append_assoc}
+use Rattle.std.proofs.Common.{◌≡◌, ℕ, ◌+◌, ◌<◌, ◌≤◌, true, false, ◌&&◌, List, [], ◌∷◌, ◌++◌, length, get_or, drop, Some, None, Option, sym, refl, ap, ◌∙◌, append_assoc, arith}
 use Rattle.std.specs.Option.{option_map, is_some}
 use Rattle.std.specs.List.{list_all}
-use Rattle.std.proofs.lemmas.List.{append-nil, at_drop_more, at_drop_all}
+use Rattle.std.proofs.lemmas.List.{append-nil, length-append, at_drop_more, at_drop_all}
 use Rattle.setup_file.specs.declared.setup.Make.{Make}
 use Rattle.setup_file.specs.Items.{StoreContent, numbers_of, store_made, ◌>>=◌}
 use Rattle.setup_file.specs.Words.{long_of}
@@ -45,6 +45,18 @@ module _ (words : List (List ℕ)) (i : ℕ) (numbers : List ℕ) (read : Number
   unfolding numbers_of
   numbers_end h = ap Some (sym (append-nil numbers)) ∙ sym (at_drop_all (λ ws. option_map (λ m. numbers ++ m) (numbers_of ws)) words i h) ∙ read
 
+longer : (numbers all : List ℕ) (o : Option (List ℕ)) → option_map (λ more. numbers ++ more) o ≡ Some all → length numbers ≤ length all
+longer numbers all None e = absurd cc
+longer numbers all (Some more) e =
+    let joined : numbers ++ more ≡ all = cc in
+    let n = length-append numbers more in
+    let m = ap length joined in
+    omega (arith, n, m)
+
+pub numbers_within : (words : List (List ℕ)) (i : ℕ) (numbers : List ℕ) → NumbersRead words i numbers → (all : List ℕ) → numbers_of words ≡ Some all
+    → length numbers ≤ length all
+numbers_within words i numbers read all e = longer numbers all (numbers_of (drop i words)) (read ∙ e)
+
 -- ---- without keeping them
 
 chained : (a : Option ℕ) (b : Option (List ℕ)) → (is_some a && is_some b) ≡ is_some (a >>= (λ k. b >>= (λ ns. Some (k ∷ ns))))
@@ -57,17 +69,20 @@ unfolding numbers_of
 numbers_known [] = refl
 numbers_known (w ∷ ws) = ap (λ b. is_some (long_of w) && b) (numbers_known ws) ∙ chained (long_of w) (numbers_of ws)
 
-module _ (make : Make) (words : List (List ℕ)) where
-  made : (o : Option (List ℕ)) → is_some o ≡ true → (store : StoreContent) × ((o >>= (λ numbers. Some (record { make = make; numbers = numbers }))) ≡ Some store)
-  made None e = let said : false ≡ true = e in absurd cc
-  made (Some ns) e = (record { make = make; numbers = ns }, refl)
+known : (o : Option (List ℕ)) → is_some o ≡ true → (numbers : List ℕ) × (o ≡ Some numbers)
+known None e = let said : false ≡ true = e in absurd cc
+known (Some numbers) e = (numbers, refl)
 
+pub words_known : (words : List (List ℕ)) → is_some (numbers_of words) ≡ true → (numbers : List ℕ) × (numbers_of words ≡ Some numbers)
+words_known words e = known (numbers_of words) e
+
+module _ (make : Make) (words : List (List ℕ)) where
   unmade : (o : Option (List ℕ)) → is_some o ≡ false → ◌≡◌ {A = Option StoreContent} (o >>= (λ numbers. Some (record { make = make; numbers = numbers }))) None
   unmade None e = refl
   unmade (Some ns) e = let said : true ≡ false = e in absurd cc
 
-  pub store_known : is_some (numbers_of words) ≡ true → (store : StoreContent) × (store_made make words ≡ Some store)
-  store_known e = made (numbers_of words) e
-
   pub store_unknown : is_some (numbers_of words) ≡ false → store_made make words ≡ None
   store_unknown e = unmade (numbers_of words) e
+
+  pub stored : (numbers : List ℕ) → numbers_of words ≡ Some numbers → store_made make words ≡ Some (record { make = make; numbers = numbers })
+  stored numbers e = ap (λ o. o >>= (λ ns. Some (record { make = make; numbers = ns }))) e

@@ -11,7 +11,7 @@ use Rattle.setup_file.specs.declared.error.Problem.{Problem}
 use Rattle.setup_file.specs.declared.error.SetupFileError.{SetupFileError}
 use Rattle.setup_file.specs.declared.error.SetupFileError.TheVariants.{OutOfMemory, Unreadable}
 use Rattle.setup_file.specs.declared.seen.Seen.{Seen}
-use Rattle.setup_file.specs.Checks.{Stands, ChecksText}
+use Rattle.setup_file.specs.Checks.{Stands, OutlinesText}
 use Rattle.setup_file.specs.SetupFiles.{DraftContent, with_words, finished, at_line, lines_from, content_of, IsReadable, ReadsLine, error_at, ReadsSetupFile}
 use Rattle.setup_file.specs.Words.{words_of}
 
@@ -58,6 +58,6 @@ module _ (text : List ℕ) (i count : ℕ) (draft : DraftContent) (r : LinesRead
   unfolding lines_from
   lines_end h = sym (sym (at_drop_all (lines_from count draft) (lines text) i h) ∙ r.left)
 
-pub told : (text : List ℕ) (error : SetupFileError) → ChecksText text (Err error) → ReadsSetupFile text (Err error)
+pub told : (text : List ℕ) (error : SetupFileError) → OutlinesText text (Err error) → ReadsSetupFile text (Err error)
 told text (Unreadable line problem) h = h
 told text OutOfMemory h = absurd h

@@ -1,6 +1,7 @@
 pub mod Checks
 pub mod Items
 pub mod Messages
+pub mod Outlines
 pub mod Reading
 pub mod SetupFiles
 pub mod Texts

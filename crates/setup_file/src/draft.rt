@@ -20,12 +20,12 @@ pub(crate) struct Draft {
 }
 
 // Puts an item that may stand once into its place.
-fn put_once<T: Drop>(place: &mut Option<T>, item: T) -> Result<(), LineError>
+pub(crate) fn put_once<T: Drop>(place: &mut Option<T>, item: T) -> Result<(), Problem>
     ensures free { OnOk result ((place.old ≡ None) × (place.new ≡ Some item)) }
-    ensures taken { IfErr result (λ error. IsSome place.old × (place.new ≡ place.old) × (error ≡ LineError.AtLine Repeated)) }
+    ensures taken { IfErr result (λ problem. IsSome place.old × (place.new ≡ place.old) × (problem ≡ Repeated)) }
 {
     if place.is_some() {
-        return Err(LineError::from(Problem::Repeated));
+        return Err(Problem::Repeated);
     }
     *place = Some(item);
     Ok(())
@@ -47,14 +47,14 @@ impl Draft {
         ensures { ReadsLine (with_item item.entry (draft_content self.old)) self.new result }
     {
         match item {
-            Item::Order(order) => put_once(&mut self.order, order),
+            Item::Order(order) => Ok(put_once(&mut self.order, order)?),
             Item::Cells(make, words) => {
                 let cells = store(heap, make, words)?.ok_or(Problem::BadStore)?;
-                put_once(&mut self.cells, cells)
+                Ok(put_once(&mut self.cells, cells)?)
             }
             Item::Rights(make, words) => {
                 let rights = store(heap, make, words)?.ok_or(Problem::BadStore)?;
-                put_once(&mut self.rights, rights)
+                Ok(put_once(&mut self.rights, rights)?)
             }
             Item::Policy(policy) => {
                 self.policies.push(policy).map_err(AllocError::from)?;

@@ -1,18 +1,20 @@
 // The text of a set-up file, line by line.
 ghost use Rattle.std.specs.Prelude.{◌≡◌};
-ghost use Rattle.setup_file.specs.Checks.{ChecksText};
+ghost use Rattle.setup_file.specs.Checks.{OutlinesText};
 ghost use Rattle.setup_file.specs.SetupFiles.{SetupContent, IsReadable, ReadsSetupFile};
 ghost use Rattle.setup_file.specs.Texts.{text_of, Fits, Gives};
 
 use crate::draft::Draft;
 use crate::error::SetupFileError;
+use crate::outline::Outline;
 use crate::seen::Seen;
 use crate::setup::SetupFile;
 use std::alloc::Global;
 
-// The first line that cannot be read, if there is one. No memory is taken.
-fn check_text(text: &[u8]) -> Result<(), SetupFileError>
-    ensures { ChecksText text.now result }
+/// The outline of a set-up file: what it says, but for the numbers of a store and the policies where they are too many. A line that cannot be read is told
+/// as `read_setup_file` tells it. No memory is taken.
+pub fn outline_of(text: &[u8]) -> Result<Outline, SetupFileError>
+    ensures { OutlinesText text.now result }
 {
     let mut seen = Seen::new();
     let mut number = 0;
@@ -26,7 +28,7 @@ fn check_text(text: &[u8]) -> Result<(), SetupFileError>
         }
     }
     match seen.finish() {
-        Ok(()) => Ok(()),
+        Ok(outline) => Ok(outline),
         Err(problem) => Err(SetupFileError::Unreadable {
             line: number,
             problem,
@@ -62,6 +64,6 @@ pub fn read_setup_file(heap: Global, text: &[u8]) -> Result<SetupFile, SetupFile
     // The text that writing a set-up makes gives the set-up back.
     ensures reads_back { (setup : SetupContent) → Fits setup → text_of setup ≡ text.now → Gives setup result }
 {
-    check_text(text)?;
+    outline_of(text)?;
     read_text(heap, text)
 }

@@ -1,29 +1,20 @@
-// Which items that may stand once have stood so far.
-ghost use Rattle.std.specs.Prelude.{◌≡◌, true, false, OnOk, IfErr};
-ghost use Rattle.setup_file.specs.declared.error.Problem.TheVariants.{Repeated};
+// The outline of what the lines of a set-up file have said so far.
 ghost use Rattle.setup_file.specs.Reading.{with_item};
 ghost use Rattle.setup_file.specs.SetupFiles.{DraftContent, no_items, with_words, finished};
 ghost use Rattle.setup_file.specs.Words.{words_of};
 
+use crate::draft::put_once;
 use crate::error::Problem;
-use crate::item::{Item, are_numbers, read_item};
+use crate::item::{Item, read_item};
+use crate::outline::{FewPolicies, Outline, StoreOutline, one_more, store_outline};
+use crate::setup::OrderLine;
 
-#[derive(Clone, Copy)]
+#[derive(Drop)]
 pub(crate) struct Seen {
-    order: bool,
-    cells: bool,
-    rights: bool,
-}
-
-fn see_once(seen: &mut bool) -> Result<(), Problem>
-    ensures free { OnOk result ((seen.old ≡ false) × (seen.new ≡ true)) }
-    ensures taken { IfErr result (λ problem. (seen.old ≡ true) × (problem ≡ Repeated)) }
-{
-    if *seen {
-        return Err(Problem::Repeated);
-    }
-    *seen = true;
-    Ok(())
+    order: Option<OrderLine>,
+    cells: Option<StoreOutline>,
+    rights: Option<StoreOutline>,
+    policies: Option<FewPolicies>,
 }
 
 impl Seen {
@@ -33,9 +24,10 @@ impl Seen {
         ensures { Stands result no_items }
     {
         Seen {
-            order: false,
-            cells: false,
-            rights: false,
+            order: None,
+            cells: None,
+            rights: None,
+            policies: Some(FewPolicies::new()),
         }
     }
 
@@ -44,11 +36,19 @@ impl Seen {
             → ChecksLine (with_item item.entry draft) self.new result }
     {
         match item {
-            Item::Order(_) => see_once(&mut self.order),
-            Item::Cells(_, words) if are_numbers(words) => see_once(&mut self.cells),
-            Item::Rights(_, words) if are_numbers(words) => see_once(&mut self.rights),
-            Item::Cells(..) | Item::Rights(..) => Err(Problem::BadStore),
-            Item::Policy(_) => Ok(()),
+            Item::Order(order) => put_once(&mut self.order, order),
+            Item::Cells(make, words) => {
+                let cells = store_outline(make, words).ok_or(Problem::BadStore)?;
+                put_once(&mut self.cells, cells)
+            }
+            Item::Rights(make, words) => {
+                let rights = store_outline(make, words).ok_or(Problem::BadStore)?;
+                put_once(&mut self.rights, rights)
+            }
+            Item::Policy(policy) => {
+                self.policies = one_more(self.policies, policy);
+                Ok(())
+            }
         }
     }
 
@@ -63,18 +63,21 @@ impl Seen {
         }
     }
 
-    // What is missing, behind the last line.
-    pub(crate) fn finish(self) -> Result<(), Problem>
+    // The outline, behind the last line.
+    pub(crate) fn finish(self) -> Result<Outline, Problem>
         ensures { (draft : DraftContent) → Stands self draft → ChecksEnd (finished draft) result }
     {
-        if !self.order {
-            Err(Problem::NoOrder)
-        } else if !self.cells {
-            Err(Problem::NoCells)
-        } else if !self.rights {
-            Err(Problem::NoRights)
-        } else {
-            Ok(())
-        }
+        let Seen {
+            order,
+            cells,
+            rights,
+            policies,
+        } = self;
+        Ok(Outline {
+            order: order.ok_or(Problem::NoOrder)?,
+            cells: cells.ok_or(Problem::NoCells)?,
+            rights: rights.ok_or(Problem::NoRights)?,
+            policies,
+        })
     }
 }

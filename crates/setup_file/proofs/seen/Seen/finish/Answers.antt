@@ -1,5 +1,8 @@
+use Rattle.std.proofs.Common.{refl, rules}
 use Rattle.setup_file.proofs.Standing.{all_stand}
 use Rattle.setup_file.proofs.seen.Seen.finish.Goals as goal
 
-pub returns-else-not-self-3 : goal.returns-else-not-self-3
-returns-else-not-self-3 c draft stands = all_stand c.args.self draft stands c.if-not-self.false c.if-not-self-2.false c.if-not-self-3.false
+pub returns : goal.returns
+returns c draft stands =
+    all_stand c.in_ok-ok_or.field-0 c.in_ok-ok_or-2.field-0 c.in_ok-ok_or-3.field-0 c.args.self.policies c.args.self draft stands
+    (search rules) (search rules) (search rules) refl

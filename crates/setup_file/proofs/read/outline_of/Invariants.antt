@@ -1,7 +1,7 @@
 use Rattle.std.proofs.Common.{length}
 use Rattle.std.proofs.lemmas.Iterator.{YieldsList}
 use Rattle.setup_file.proofs.Lines.{lines, LinesChecked}
-use Rattle.setup_file.proofs.read.check_text.Given as goal
+use Rattle.setup_file.proofs.read.outline_of.Given as goal
 
 -- The iterator gives the lines, and those so far can be read.
 abbrev pub invariant-loop-line : goal.invariant-loop-line

@@ -4,7 +4,7 @@ use Rattle.std.proofs.lemmas.Iterator.Splits.{YieldsList-from_slice_split}
 use Rattle.std.proofs.lemmas.List.{length_push}
 use Rattle.setup_file.specs.SetupFiles.{no_items, at_line}
 use Rattle.setup_file.proofs.Lines.{few_lines, LinesChecked, line_read, line_fails, lines_end}
-use Rattle.setup_file.proofs.read.check_text.Goals as goal
+use Rattle.setup_file.proofs.read.outline_of.Goals as goal
 
 pub loop-line-init : goal.loop-line-init
 loop-line-init c = (
@@ -42,7 +42,7 @@ returns-in-Ok c =
     let so_far = l.invariant.1 in
     let end = YieldsList-end l.invariant.0 l.yielded _ l.yielded_by _ _ c.in-None.is c.next.ensures.steps in
     let all = c.in-Ok.ensures so_far.draft so_far.stands in
-    (all.0, lines_end c.args.text.now _ _ _ so_far.read (omega (arith, end.1)) ∙ ap (λ o. at_line l.number o Ok) all.1)
+    (all.0, lines_end c.args.text.now _ _ _ so_far.read (omega (arith, end.1)) ∙ ap (λ o. at_line l.number o Ok) all.1, all.2)
 
 pub returns-in-Err-finish : goal.returns-in-Err-finish
 returns-in-Err-finish c =
