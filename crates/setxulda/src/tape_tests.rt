@@ -1,7 +1,7 @@
 // Whether a tape is sound, and where its first fault stands.
 use crate::check::check_eq;
-use crate::short_day::{GUARD, TAPE};
 use crate::setxulda_check_tape;
+use crate::short_day::{GUARD, TAPE};
 use std::process::Abort;
 
 // The fault, the number of its record and that record's first byte.
