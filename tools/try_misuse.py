@@ -14,7 +14,7 @@ def edited(crate, edit):
             path = crate / line[6:]
         elif line.startswith("old: "):
             old = line[5:]
-        elif line.startswith("new: "):
+        elif line.startswith("new:"):
             text = path.read_text()
             if text.count(old) != 1:
                 sys.exit(f"{edit.name}: {old!r} stands {text.count(old)} times in {path.name}")
