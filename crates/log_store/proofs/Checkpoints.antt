@@ -1,10 +1,10 @@
 -- The bytes while numbers are copied into the base, and what an empty log and a checkpoint mean.
-use Rattle.std.proofs.Common.{◌≡◌, ℕ, ◌+◌, ◌-◌, ◌*◌, ◌/◌, ◌<◌, ◌≤◌, List, [], ◌∷◌, ◌++◌, length, get_or, take, drop, set, sym, ap, ◌∙◌, append_assoc, arith, length-append, length-drop}
+use Rattle.std.proofs.Common.{◌≡◌, ℕ, ◌+◌, ◌-◌, ◌*◌, ◌<◌, ◌≤◌, List, [], ◌∷◌, ◌++◌, length, get_or, take, drop, set, sym, ap, ◌∙◌, append_assoc, arith, length-append, length-drop}
 use Rattle.std.specs.List.{flat_map}
 use Rattle.std.proofs.lemmas.List.{drop_at, drop-drop, drop_more, ext_get_or, get_or-append_right, get_or_at, get_or-drop, flat_map_more, length-take-le, set_at, take_all, take_at, take_more}
 use Rattle.protocol.specs.Bytes.{four_bytes}
-use Rattle.log_store.specs.Log.{formatted, listed, log_list, places, spliced, used, used_from}
-use Rattle.log_store.proofs.LogLaws.{length_listed, length_log, listed_none, listed_same_at, used_from_is, used_from_same}
+use Rattle.log_store.specs.Log.{formatted, listed, log_list, places, spliced, used}
+use Rattle.log_store.proofs.LogLaws.{length_listed, length_log, listed_none, listed_same_at, used_from_is}
 use Rattle.log_store.proofs.Numbers.{length_numbers, numbers_at}
 
 -- the first i of the numbers copied
@@ -20,12 +20,8 @@ module _ (n : ℕ) (ns t : List ℕ) (size : length ns ≡ n) where
       let e : 4 * i + (j - 4 * i) ≡ j = omega arith in
       get_or-append_right _ (drop (4 * i) t) (4 * i) j 0 (length_front i h) l ∙ get_or-drop (4 * i) t (j - 4 * i) 0 ∙ ap (λ m. get_or t m 0) e
 
-  length_copied : (i : ℕ) → i ≤ n → 4 * n ≤ length t → length (copied ns t i) ≡ length t
+  pub length_copied : (i : ℕ) → i ≤ n → 4 * n ≤ length t → length (copied ns t i) ≡ length t
   length_copied i h l = let front = length_front i h in simp (length-append, length-drop) (omega arith)
-
-  copied_used : (i : ℕ) → i ≤ n → 4 * n ≤ length t → used n (copied ns t i) ≡ used n t
-  copied_used i h l =
-      ap (λ m. used_from ((m - 4 * n) / 9) (4 * n) (copied ns t i)) (length_copied i h l) ∙ used_from_same (places n t) (4 * n) t (copied ns t i) (λ j k. copied_rest i j h (omega arith))
 
   pub copied_more : (i x : ℕ) → i < n → x ≡ get_or ns i 0 → spliced (copied ns t i) (4 * i) (four_bytes x) ≡ copied ns t (i + 1)
   copied_more i x h new =
@@ -68,8 +64,7 @@ module _ (n : ℕ) (ns t : List ℕ) (size : length ns ≡ n) where
       listed_none n u i (omega arith) ∙ numbers_at ns (0 ∷ drop (4 * n + 1) t) i (omega arith) (small i (omega arith)))
 
 module _ (n : ℕ) (t : List ℕ) where
-  pub copied_at : (i : ℕ) → i < n → 4 * n ≤ length t → get_or (log_list n (copied (log_list n t) t i)) i 0 ≡ get_or (log_list n t) i 0
-  copied_at i h l =
+  pub copied_at : (i : ℕ) → i < n → get_or (listed n (copied (log_list n t) t i) (used n t)) i 0 ≡ get_or (log_list n t) i 0
+  copied_at i h =
       let ns = log_list n t in
-      let u = copied ns t i in
-      ap (λ k. get_or (listed n u k) i 0) (copied_used n ns t (length_log n t) i (omega arith) l) ∙ listed_same_at n t u (used n t) i h (λ j a _. copied_rest n ns t (length_log n t) i j (omega arith) a)
+      listed_same_at n t (copied ns t i) (used n t) i h (λ j a _. copied_rest n ns t (length_log n t) i j (omega arith) a)

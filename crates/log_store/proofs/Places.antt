@@ -7,7 +7,7 @@ use Rattle.std.proofs.lemmas.List.{drop-drop, get_or-drop, get_or-take, reverse-
 use Rattle.std.proofs.lemmas.List.Folds.{list_all_more}
 use Rattle.std.proofs.lemmas.List.Sums.{prefix_len-le-length}
 use Rattle.protocol.specs.Bytes.{two_at, four_at}
-use Rattle.log_store.specs.Log.{all_fields, field_at, listed, log_list, place, places, place_list, used, used_from}
+use Rattle.log_store.specs.Log.{all_fields, field_at, listed, place, places, place_list, used, used_from}
 use Rattle.log_store.proofs.LogLaws.{listed_more, listed_none}
 
 length_chunks : (m : ℕ) (xs : List ℕ) → length (first_chunks 9 m xs) ≡ m
@@ -121,6 +121,6 @@ listed_found n t i (suc k) low h =
     let more = listed_more n t k i low in
     cc
 
-pub number_found : (n : ℕ) (t : List ℕ) (i : ℕ) (fields : List (List ℕ)) (last : Option (List ℕ)) → i < n → fields ≡ take (used n t) (place_list n t) → last ≡ find (λ x. eqb (two_at x 3) i) (reverse fields) → value_or (four_at t (4 * i)) last ≡ get_or (log_list n t) i 0
-number_found n t i fields last low e f =
-    ap (value_or (four_at t (4 * i))) (f ∙ ap (λ xs. find (λ x. eqb (two_at x 3) i) (reverse xs)) e) ∙ sym (listed_found n t i (used n t) low (used_le n t))
+pub number_found : (n : ℕ) (t : List ℕ) (i k : ℕ) (xs : List (List ℕ)) (last : Option (List ℕ)) → i < n → k ≤ places n t → xs ≡ place_list n t → last ≡ find (λ x. eqb (two_at x 3) i) (reverse (take k xs)) → value_or (four_at t (4 * i)) last ≡ get_or (listed n t k) i 0
+number_found n t i k xs last low h e f =
+    ap (value_or (four_at t (4 * i))) (f ∙ ap (λ ys. find (λ x. eqb (two_at x 3) i) (reverse (take k ys))) e) ∙ sym (listed_found n t i k low h)

@@ -2,7 +2,7 @@
 ghost use Rattle.std.specs.Prelude.{◌≡◌, ◌*◌, ◌<◌, ◌≤◌, ◌==◌, not, length, reverse, slice_index, take};
 ghost use Rattle.std.specs.List.{find, list_all, prefix_len};
 ghost use Rattle.std.specs.Option.{option_map};
-ghost use Rattle.log_store.specs.Log.{all_fields, field_at, fits, holds_log, log_end, log_list, place_list, used};
+ghost use Rattle.log_store.specs.Log.{all_fields, field_at, fits, holds_log, listed, log_end, log_list, place_list, places, used};
 ghost use Rattle.protocol.specs.Bytes.{two_at, four_at};
 
 use crate::bytes::number32;
@@ -79,6 +79,14 @@ impl<'a> Log<'a> {
         places
     }
 
+    // How many places are used.
+    pub(crate) fn used(&self) -> usize
+        ensures within { result ≤ places self.now.count self.now.bytes.now }
+        ensures used { result ≡ used self.now.count self.now.bytes.now }
+    {
+        count_used(self.places())
+    }
+
     // The used places.
     fn fields(&self) -> &'a [Place]
         ensures { result.now ≡ take (used self.now.count self.now.bytes.now) (place_list self.now.count self.now.bytes.now) }
@@ -92,18 +100,27 @@ impl<'a> Log<'a> {
         ensures end { result ≡ log_end self.now.count self.now.bytes.now }
         ensures within { result ≤ length self.now.bytes.now }
     {
-        4 * self.count + 9 * self.fields().len()
+        4 * self.count + 9 * self.used()
     }
 
-    // The value of the last field of the position, else its base number.
+    // The number at a position after the first `fields` places: the value of the last field of the position, else its base number.
+    pub(crate) fn number_after(&self, fields: usize, position: usize) -> u32
+        requires counted { position < self.now.count }
+        requires within { fields ≤ places self.now.count self.now.bytes.now }
+        ensures { result ≡ slice_index (listed self.now.count self.now.bytes.now fields) position }
+    {
+        match last_of(&self.places()[..fields], position) {
+            Some(field) => value_of(field),
+            None => number32(self.bytes, 4 * position),
+        }
+    }
+
+    // The number at a position of the log's list.
     pub(crate) fn number(&self, position: usize) -> u32
         requires { position < self.now.count }
         ensures { result ≡ slice_index (log_list self.now.count self.now.bytes.now) position }
     {
-        match last_of(self.fields(), position) {
-            Some(field) => value_of(field),
-            None => number32(self.bytes, 4 * position),
-        }
+        self.number_after(self.used(), position)
     }
 
     fn is_sound(&self) -> bool

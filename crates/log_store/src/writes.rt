@@ -44,9 +44,11 @@ fn checkpoint(bytes: &mut [u8], count: usize)
     ensures bytes { bytes.new ≡ checkpoint count bytes.old }
     ensures list { log_list count bytes.new ≡ log_list count bytes.old }
 {
+    // Counted once, since the used places stay while the base is written.
+    let fields = Log::new(bytes, count).used();
     // By index, since each number is read from the bytes that the loop writes.
     for i in 0..count {
-        let number = Log::new(bytes, count).number(i);
+        let number = Log::new(bytes, count).number_after(fields, i);
         put(bytes, 4 * i, &number.to_be_bytes());
     }
     bytes[4 * count] = 0;

@@ -2,7 +2,7 @@
 #![tactic(auto)]
 
 use listing::list_tape;
-use std::env;
+use std::env::{self, Env, FillError};
 use std::io::Read;
 use std::process::ExitCode;
 
@@ -20,6 +20,10 @@ fn print_listing(rt: &HostRuntime) -> anyhow::Result<ExitCode> {
 }
 
 fn main(rt: HostRuntime) -> anyhow::Result<ExitCode> {
+    // Asked for alone, since the list of them is an error where the program's own path is not UTF-8.
+    if let Err(FillError::NotPresent) = rt.arg(1, &mut [0; 1]) {
+        return print_listing(&rt);
+    }
     let Some(argument) = env::args(&rt)?.nth(1) else {
         return print_listing(&rt);
     };
