@@ -8,7 +8,7 @@ use Rattle.rights.specs.declared.order.RightsOrder as order
 use Rattle.stores.specs.Writes.{Written}
 use Rattle.serial.specs.Model.{State, step, answer}
 use Rattle.serial.specs.Writes.{NoneCommitted, changes_from, to_cells, to_rights}
-use Rattle.serial.proofs.OneDay.{worked_none, worked_push, written_push, nothing_written}
+use Rattle.serial.proofs.OneDay.{worked_none, worked_push, worked_in_turn, written_push, nothing_written}
 use Rattle.engine.specs.declared.engine.Engine.{Engine}
 use Rattle.engine.specs.Engines.{state_of, setup_of, Keeps, Works, Steps}
 use Rattle.engine.proofs.Writing.{wrote_none, wrote_both}
@@ -30,7 +30,13 @@ module _ {C R O : Type 0} {c : store.Ghosts C} {r : store.Ghosts R} where
 module _ {C R O : Type 0} {c : store.Ghosts C} {r : store.Ghosts R} {o : order.Ghosts O} where
   pub works_none : (e : Engine C R O) → Works c r o e [] [] e
   unfolding changes_from
-  works_none e = record { worked = worked_none; same_setup = refl; keeps_stores = keeps_none e; writes = wrote_none c r _ _ }
+  works_none e = record {
+    worked = worked_none;
+    in_turn = worked_in_turn worked_none;
+    same_setup = refl;
+    keeps_stores = keeps_none e;
+    writes = wrote_none c r _ _;
+  }
 
   pub works_push : {e m f : Engine C R O} {rs : List Request} {bs : List Answer} {a : Answer} → Works c r o e rs bs m → (q : Request) → Steps c r o m q a f
       → Works c r o e (rs ++ q ∷ []) (bs ++ a ∷ []) f
@@ -39,6 +45,7 @@ module _ {C R O : Type 0} {c : store.Ghosts C} {r : store.Ghosts R} {o : order.G
       let told : a ≡ answer (setup_of o e) (state_of c r m) q = ap (λ (z : Answer × State). z.0) stepped in
       record {
         worked = worked_push w.worked q stepped;
+        in_turn = worked_in_turn (worked_push w.worked q stepped);
         same_setup = went.same_setup ∙ w.same_setup;
         keeps_stores = keeps_both w.keeps_stores went.keeps_stores;
         writes = rw (written_push w.worked q, ← told) (wrote_both c r _ _ _ _ _ _ _ _ w.writes went.writes);
@@ -54,5 +61,5 @@ module _ {C R O : Type 0} {c : store.Ghosts C} {r : store.Ghosts R} {o : order.G
       → (f.cells.now ≡ e.cells.now) × (f.rights.now ≡ e.rights.now)
   unfolding Written to_cells to_rights
   works_nothing w none =
-      let wrote = rw (nothing_written _ _ _ _ w.worked.answered_in_turn none) at w.writes in
+      let wrote = rw (nothing_written _ _ _ _ w.in_turn.answered_in_turn none) at w.writes in
       (wrote.into_cells, wrote.into_rights)

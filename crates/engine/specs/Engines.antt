@@ -10,7 +10,7 @@ use Rattle.serial.specs.Words as words
 use Rattle.serial.specs.Words.{Setup, Store, Change}
 use Rattle.serial.specs.Requests.{Asked, asked}
 use Rattle.serial.specs.Model.{State, perform}
-use Rattle.serial.specs.OneDay.{Worked}
+use Rattle.serial.specs.OneDay.{Worked, WorkedInTurn}
 use Rattle.serial.specs.Writes.{changes_by, changes_from}
 use Rattle.engine.specs.declared.engine.Engine.{Engine}
 use Rattle.engine.specs.Stores.{lists_of, first_cells, Lent, Wrote}
@@ -66,6 +66,7 @@ module _ {C R O : Type 0} where
   pub record Works (c : store.Ghosts C) (r : store.Ghosts R) (o : order.Ghosts O) (before : Engine C R O) (requests : List Request)
       (answers : List Answer) (after : Engine C R O) : Type 0 where
     pub worked : Worked (setup_of o before) (state_of c r before) requests answers (state_of c r after)
+    pub in_turn : WorkedInTurn (setup_of o before) (state_of c r before) requests answers (state_of c r after)
     pub same_setup : setup_of o after ≡ setup_of o before
     pub keeps_stores : Keeps c r before after
     pub writes : Writes c r before after (changes_from (setup_of o before) (state_of c r before) requests)

@@ -32,7 +32,7 @@ abbrev pub Once : List Change → Type 0
 Once [] = Unit {0}
 Once (k ∷ ks) = (latest ks k.object ≡ None) × Once ks
 
-same_object_flip : (a b : Object) → same_object a b ≡ false → same_object b a ≡ false
+pub same_object_flip : (a b : Object) → same_object a b ≡ false → same_object b a ≡ false
 same_object_flip a b e = grind (arith, nat_tests)
 
 latest_put : (o : Object) (v : ℕ) (ks : List Change) (o' : Object) → latest (put o v ks) o' ≡ cond (same_object o o') (Some v) (latest ks o')

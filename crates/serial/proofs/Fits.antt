@@ -20,7 +20,7 @@ use Rattle.serial.specs.Model.{Transaction}
 use Rattle.serial.specs.Serial.{Entry, Transcript, Session}
 use Rattle.serial.specs.Writes.{workspace}
 use Rattle.serial.proofs.Locks.{Coexist, write_read, no_and_no, restrict_deploy}
-use Rattle.serial.proofs.Changes.{apply_cases, Once, SeesAlike, WritesAlike}
+use Rattle.serial.proofs.Changes.{apply_cases, Wrote, Once, SeesAlike, WritesAlike}
 use Rattle.serial.proofs.Replay.{Allowed, Grants, session, Follows}
 
 -- the lock that a granted call has taken is held
@@ -54,7 +54,7 @@ pub record Fits (S : Setup) (s : Store) (j : Transcript) (x : Transaction) : Typ
   pub changes_locked : (k : Change) → Member k x.changes → ChangeLocked S s x k.object k.value
 
 -- what the calls deployed is held
-deployed_held : (x : Transaction) (u : Option ℕ) (l : List Entry) → LockedAll x l → (p : ℕ) → Member p (session u l).deployed → x.holds (OnPolicy Deploy p) ≡ true
+pub deployed_held : (x : Transaction) (u : Option ℕ) (l : List Entry) → LockedAll x l → (p : ℕ) → Member p (session u l).deployed → x.holds (OnPolicy Deploy p) ≡ true
 unfolding session
 deployed_held x u [] k p i = absurd i
 deployed_held x u (e ∷ l) k p i = grind (arith, deployed_held x u l k.1 p)
@@ -111,11 +111,14 @@ fits_frame S s s' j y f k = record {
   changes_locked = λ c m. change_frame S y s s' c.object c.value f (k.changes_locked c m);
 }
 
+-- what a change at an object needs, at the object as written
+pub wrote_locked : (S : Setup) (s : Store) (j : Transcript) (x : Transaction) (o : Object) (n : ℕ) → Fits S s j x → Wrote x.changes s o n → ChangeLocked S s x o n
+wrote_locked S s j x o n k (c, m, e, v) = rw (v, ← e) (k.changes_locked c m)
+
 -- what the changes wrote, they had the lock for
-pub wrote_locked : (S : Setup) (s : Store) (j : Transcript) (x : Transaction) (o : Object) → Fits S s j x
+pub stays_or_locked : (S : Setup) (s : Store) (j : Transcript) (x : Transaction) (o : Object) → Fits S s j x
     → (stored (apply x.changes s) o ≡ stored s o) ⊎ ChangeLocked S s x o (stored (apply x.changes s) o)
-wrote_locked S s j x o k =
-    ⊎_elim (λ e. inl e) (λ (c, m, e, v). inr (rw (v, ← e) (k.changes_locked c m))) (apply_cases x.changes s o)
+stays_or_locked S s j x o k = ⊎_elim inl (λ w. inr (wrote_locked S s j x o _ k w)) (apply_cases x.changes s o)
 
 module _ (S : Setup) (s : Store) (j : Transcript) (x y : Transaction) (k : Fits S s j x)
     (apart : (l m : Lock) → x.holds l ≡ true → y.holds m ≡ true → Coexist l m) where
@@ -125,13 +128,13 @@ module _ (S : Setup) (s : Store) (j : Transcript) (x y : Transaction) (k : Fits 
   kept_by m p h a b c d =
       let relax : Coexist (OnPolicy Relax p) (OnPolicy m p) → ⊥ = no_and_no Relax m p a b in
       let restrict : Coexist (OnPolicy Restrict p) (OnPolicy m p) → ⊥ = no_and_no Restrict m p c d in
-      grind (arith, wrote_locked S s j x (OfPolicy p) k, apart (OnPolicy Relax p) (OnPolicy m p), apart (OnPolicy Restrict p) (OnPolicy m p))
+      grind (arith, stays_or_locked S s j x (OfPolicy p) k, apart (OnPolicy Relax p) (OnPolicy m p), apart (OnPolicy Restrict p) (OnPolicy m p))
 
   -- a commit of x is such a change for y, whose locks coexist with those of x
   pub commit_frame : Laws S → ((p : ℕ) (pol : Policy) → slice_get S.policies p ≡ Some pol → S.is_right (get_or s.rights p 0) ≡ true)
       → Frame S y s (apply x.changes s)
   commit_frame laws rights = record {
-    cell_same = λ c h. ⊎_elim (λ e. e) (λ w. write_read c (apart (OnCell WriteCell c) (OnCell ReadCell c) w h)) (wrote_locked S s j x (OfCell c) k);
+    cell_same = λ c h. ⊎_elim (λ e. e) (λ w. write_read c (apart (OnCell WriteCell c) (OnCell ReadCell c) w h)) (stays_or_locked S s j x (OfCell c) k);
     shown_same = λ p h. kept_by ReadPolicy p h refl refl refl refl;
     relaxed_same = λ p h. kept_by Relax p h refl refl refl refl;
     restricted_same = λ p h. kept_by Restrict p h refl refl refl refl;
@@ -141,7 +144,7 @@ module _ (S : Setup) (s : Store) (j : Transcript) (x y : Transaction) (k : Fits 
         let no_restrict : Coexist (OnPolicy Restrict p) (OnPolicy Deploy p) → ⊥ = restrict_deploy p in
         grind (
           arith,
-          wrote_locked S s j x (OfPolicy p) k,
+          stays_or_locked S s j x (OfPolicy p) k,
           apart (OnPolicy Restrict p) (OnPolicy Deploy p),
           relaxation_joins S old new,
           laws.join_permits old new op (rights p pol n),

@@ -10,7 +10,7 @@ use Rattle.serial.proofs.Slots.{find_map, find_strike, find_replace, find_named,
 abbrev pub called : Transaction → Lock → Call → List Slot → List Slot
 called x l c slots = replace (advance x l c) (map (strike x l) slots)
 
-called_find : (x : Transaction) (l : Lock) (c : Call) (slots : List Slot) (u : ℕ) → find u (called x l c slots) ≡ replace_slot (advance x l c) (strike x l (find u slots))
+pub called_find : (x : Transaction) (l : Lock) (c : Call) (slots : List Slot) (u : ℕ) → find u (called x l c slots) ≡ replace_slot (advance x l c) (strike x l (find u slots))
 called_find x l c slots u = find_replace (advance x l c) u (map (strike x l) slots) ∙ ap (replace_slot (advance x l c)) (find_strike x l u slots)
 
 pub called_same : (x : Transaction) (l : Lock) (c : Call) (slots : List Slot) (t : ℕ) → find t slots ≡ open_slot x → find t (called x l c slots) ≡ open_slot (advance x l c)

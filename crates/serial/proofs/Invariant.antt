@@ -15,7 +15,7 @@ use Rattle.serial.specs.Writes.{workspace}
 use Rattle.serial.proofs.Slots.{find_number, find_end_same, find_end_other, find_place_same, find_place_other}
 use Rattle.serial.proofs.Locks.{Coexist, verdict_ok, neither, unblocked}
 use Rattle.serial.proofs.Replay.{session, Follows, follows_replays, follows_executed}
-use Rattle.serial.proofs.Fits.{Fits, fits_frame, commit_frame, wrote_locked}
+use Rattle.serial.proofs.Fits.{Fits, fits_frame, commit_frame, stays_or_locked}
 use Rattle.serial.proofs.Advance.{advance_holds, advance_fits}
 use Rattle.serial.proofs.Granted.{called, called_same, called_other, strike_open, Distinct, distinct_called, distinct_end, distinct_place, find_end_free}
 
@@ -161,7 +161,7 @@ module _ (S : Setup) (s₀ : Store) (transcripts : ℕ → Transcript) (ts : Lis
         (commit_frame S s (transcripts t) x z (inv.fits t x found) (inv.coexist t u x z found w.1 w.0) laws inv.rights_are)
         (inv.fits u z w.1);
     coexist = λ a b y z e f d l m h k. inv.coexist a b y z (end_open t a y e).1 (end_open t b z f).1 d l m h k;
-    rights_are = λ p pol e. grind (arith, wrote_locked S s (transcripts t) x (OfPolicy p) (inv.fits t x found), inv.rights_are p pol e);
+    rights_are = λ p pol e. grind (arith, stays_or_locked S s (transcripts t) x (OfPolicy p) (inv.fits t x found), inv.rights_are p pol e);
     known = λ u h. find_end_free t u slots (inv.known u h);
     fresh = inv.fresh;
     done = λ u m. ⊎_elim (λ q. rw q (find_end_same t slots)) (λ k. find_end_free t u slots (inv.done u k)) m;

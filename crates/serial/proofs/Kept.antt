@@ -28,7 +28,7 @@ module _ (S : Setup) (s₀ : Store) (transcripts : ℕ → Transcript) (ts : Lis
   give_up_kept t (open_slot x) = inv_leave S s₀ transcripts ts σ.store σ.slots σ.opened inv t
   give_up_kept t (aborted_slot i b p) = inv_leave S s₀ transcripts ts σ.store σ.slots σ.opened inv t
 
-  inv_step : Laws S → (k : Asked) → Good S s₀ transcripts ts k (perform S σ k)
+  pub inv_step : Laws S → (k : Asked) → Good S s₀ transcripts ts k (perform S σ k)
   unfolding perform
   inv_step laws (asks_open u) =
       open_outcome (Good S s₀ transcripts ts (asks_open u)) S σ u (λ f. inv) (λ a. inv_open S s₀ transcripts ts σ.store σ.slots σ.opened inv u a)
@@ -42,7 +42,7 @@ module _ (S : Setup) (s₀ : Store) (transcripts : ℕ → Transcript) (ts : Lis
 abbrev pub Holds : Setup → State → History → State → Type 0
 Holds S σ₀ h σ = Inv S σ₀.store (transcript h) (committed h) σ.store σ.slots σ.opened
 
-find_free : (n t : ℕ) → find t (replicate n free) ≡ free
+pub find_free : (n t : ℕ) → find t (replicate n free) ≡ free
 unfolding find
 find_free zero t = refl
 find_free (suc n) t = find_free n t
@@ -54,7 +54,7 @@ distinct_free : (n : ℕ) → Distinct (replicate n free)
 distinct_free zero = tt
 distinct_free (suc n) = ((λ u e. cc), distinct_free n)
 
-inv_start : (S : Setup) (σ₀ : State) → Admitted S σ₀ → Holds S σ₀ [] σ₀
+pub inv_start : (S : Setup) (σ₀ : State) → Admitted S σ₀ → Holds S σ₀ [] σ₀
 unfolding transcript committed serial_store SerialGrants
 inv_start S σ₀ adm = record {
   grants = tt;

@@ -49,7 +49,7 @@ pub neither : (a : LockAnswer) → is_conflict a ≡ false → is_signal a ≡ f
 neither a c s = grind arith
 
 -- only a held deploy lock signals, and only to a restrict lock of its policy
-says_signal : (m l : Lock) → says m l ≡ Signal → (p : ℕ) × (m ≡ OnPolicy Deploy p) × (l ≡ OnPolicy Restrict p)
+pub says_signal : (m l : Lock) → says m l ≡ Signal → (p : ℕ) × (m ≡ OnPolicy Deploy p) × (l ≡ OnPolicy Restrict p)
 says_signal m l e = grind (arith, nat_tests)
 
 -- what it takes for a transaction to be signalled
@@ -57,6 +57,7 @@ pub record Signalled (x : Transaction) (l : Lock) (y : Transaction) : Type 0 whe
   pub policy : ℕ
   pub asked : l ≡ OnPolicy Restrict policy
   pub deployed : y.holds (OnPolicy Deploy policy) ≡ true
+  pub new : x.holds l ≡ false
   pub other : x.number ≡ y.number → ⊥
 
 pub signal_means : (x y : Transaction) (l : Lock) → is_signal (verdict x l y) ≡ true → Signalled x l y

@@ -10,7 +10,7 @@ use Rattle.serial.specs.History.{Event, History, effect_of, committed_with, Run,
 use Rattle.serial.specs.Requests.{Asked, asks_open, asks_call, asks_commit, asks_give_up, asked}
 use Rattle.serial.specs.Writes.{NoneCommitted, changes_by, changes_from, state_after, answers_from}
 use Rattle.serial.specs.Day.{Strikes, StruckIn, RunsAreSerial}
-use Rattle.serial.specs.OneDay.{recorded, history, morning, Moment, IsMomentOf, DayDone, Worked, EveryDayIsDone}
+use Rattle.serial.specs.OneDay.{recorded, history, morning, Moment, IsMomentOf, DayDone, Worked, WorkedInTurn, EveryDayIsDone}
 use Rattle.serial.proofs.Main.{day_is_serial}
 
 -- no event is in the empty history
@@ -94,6 +94,30 @@ day_done S laws before after adm rs bs σ long run ends = record {
 
 -- the steps of a loop that makes one call after the other
 
+-- laid on a history with something below it
+recorded_above : (rs : List Request) (bs : List Answer) (k h : History) → recorded rs bs (k ++ h) ≡ recorded rs bs k ++ h
+recorded_above [] bs k h = refl
+recorded_above (r ∷ rs) [] k h = refl
+recorded_above (r ∷ rs) (b ∷ bs) k h = recorded_above rs bs (record { request = r; answer = b } ∷ k) h
+
+run_on : {S : Setup} {σ₀ σ τ : State} {h k : History} → Run S σ₀ h σ → Run S σ k τ → Run S σ₀ (k ++ h) τ
+run_on run start = run
+run_on run (then more r) = then (run_on run more) r
+
+-- a run that goes on over some requests with some answers has answered them in turn
+pub run_in_turn : {S : Setup} {σ₀ τ : State} (rs : List Request) (bs : List Answer) {σ : State} {h : History} → length bs ≡ length rs
+    → Run S σ₀ h σ → Run S σ₀ (recorded rs bs h) τ → WorkedInTurn S σ rs bs τ
+unfolding answers_from state_after
+run_in_turn {S} {σ₀} [] [] long run more =
+    record { answered_in_turn = refl; leads_to = run_ends S σ₀ refl more run }
+run_in_turn [] (b ∷ bs) long run more = cc
+run_in_turn (r ∷ rs) [] long run more = cc
+run_in_turn {S} {σ₀} (r ∷ rs) (b ∷ bs) {σ} {h} long run more =
+    let w = found S σ₀ more (recorded rs bs []) (record { request = r; answer = b }) h (recorded_above rs bs [] _) in
+    let told : b ≡ answer S σ r = rw (run_ends S σ₀ refl run w.run) (sym w.answered) in
+    let rest = run_in_turn rs bs (omega arith) (then run r) (rw told at more) in
+    record { answered_in_turn = ap₂ (λ c cs. c ∷ cs) told rest.answered_in_turn; leads_to = rest.leads_to }
+
 recorded_both : (rs : List Request) (bs : List Answer) (rs' : List Request) (bs' : List Answer) (h : History) → length bs ≡ length rs
     → recorded (rs ++ rs') (bs ++ bs') h ≡ recorded rs' bs' (recorded rs bs h)
 recorded_both [] [] rs' bs' h e = refl
@@ -103,12 +127,12 @@ recorded_both (r ∷ rs) (b ∷ bs) rs' bs' h e =
     recorded_both rs bs rs' bs' (record { request = r; answer = b } ∷ h) (omega arith)
 
 -- the state, the answers and the changes over some requests and then some more
-state_both : (S : Setup) (σ : State) (rs rs' : List Request) → state_after S σ (rs ++ rs') ≡ state_after S (state_after S σ rs) rs'
+pub state_both : (S : Setup) (σ : State) (rs rs' : List Request) → state_after S σ (rs ++ rs') ≡ state_after S (state_after S σ rs) rs'
 unfolding state_after
 state_both S σ [] rs' = refl
 state_both S σ (r ∷ rs) rs' = state_both S (after S σ r) rs rs'
 
-answers_both : (S : Setup) (σ : State) (rs rs' : List Request)
+pub answers_both : (S : Setup) (σ : State) (rs rs' : List Request)
     → answers_from S σ (rs ++ rs') ≡ answers_from S σ rs ++ answers_from S (state_after S σ rs) rs'
 unfolding answers_from state_after
 answers_both S σ [] rs' = refl
@@ -128,30 +152,34 @@ changes_one S σ r = append-nil (changes_by σ (asked r) (answer S σ r))
 
 module _ {S : Setup} {σ : State} where
   pub worked_none : Worked S σ [] [] σ
-  unfolding answers_from state_after
-  worked_none = record { all_answered = refl; answered_in_turn = refl; leads_to = refl; goes_on = λ run. run }
+  worked_none = record { all_answered = refl; goes_on = λ run. run }
 
   -- some requests and then some more
   pub worked_on : {rs rs' : List Request} {bs bs' : List Answer} {τ υ : State} → Worked S σ rs bs τ → Worked S τ rs' bs' υ
       → Worked S σ (rs ++ rs') (bs ++ bs') υ
   worked_on {rs} {rs'} {bs} {bs'} {υ = υ} w v = record {
     all_answered = simp (length-append, w.all_answered, v.all_answered);
-    answered_in_turn = rw (answers_both S σ rs rs', ← w.leads_to, ← w.answered_in_turn, ← v.answered_in_turn) refl;
-    leads_to = rw (state_both S σ rs rs', ← w.leads_to) v.leads_to;
     goes_on = λ {σ₀} {h} run. rw (recorded_both rs bs rs' bs' h w.all_answered) (v.goes_on (w.goes_on run));
   }
 
   pub worked_one : {τ : State} {a : Answer} (r : Request) → (a, τ) ≡ step S σ r → Worked S σ (r ∷ []) (a ∷ []) τ
-  unfolding answers_from state_after
   worked_one r e = record {
     all_answered = refl;
-    answered_in_turn = ap (λ (z : Answer × State). z.0 ∷ []) e;
-    leads_to = ap (λ (z : Answer × State). z.1) e;
     goes_on = λ {σ₀} {h} run. subst (λ (z : Answer × State). Run S σ₀ (record { request = r; answer = z.0 } ∷ h) z.1) (sym e) (then run r);
+  }
+
+  -- the same in plain words: the requests with their answers are a run from the state
+  pub run_worked : {rs : List Request} {bs : List Answer} {τ : State} → length bs ≡ length rs → Run S σ (history rs bs) τ → Worked S σ rs bs τ
+  run_worked {rs} {bs} {τ} long more = record {
+    all_answered = long;
+    goes_on = λ {σ₀} {h} run. rw (recorded_above rs bs [] h) (run_on run more);
   }
 
   pub worked_run : {rs : List Request} {bs : List Answer} {τ : State} → Worked S σ rs bs τ → Run S σ (history rs bs) τ
   worked_run w = w.goes_on start
+
+  pub worked_in_turn : {rs : List Request} {bs : List Answer} {τ : State} → Worked S σ rs bs τ → WorkedInTurn S σ rs bs τ
+  worked_in_turn {rs} {bs} w = run_in_turn rs bs w.all_answered start (w.goes_on start)
 
 pub worked_push : {S : Setup} {σ τ τ' : State} {rs : List Request} {bs : List Answer} {a : Answer} → Worked S σ rs bs τ → (r : Request) → (a, τ') ≡ step S τ r
     → Worked S σ (rs ++ r ∷ []) (bs ++ a ∷ []) τ'
@@ -166,7 +194,7 @@ worked_more {a = a} rs bs k d w lr lb e = rw (take_more rs k d lr, take_more_set
 -- what they write, by the state that the requests so far led to
 pub written_push : {S : Setup} {σ τ : State} {rs : List Request} {bs : List Answer} → Worked S σ rs bs τ → (r : Request)
     → changes_from S σ (rs ++ r ∷ []) ≡ changes_from S σ rs ++ changes_by τ (asked r) (answer S τ r)
-written_push {S} {σ} {rs = rs} w r = rw (changes_both S σ rs (r ∷ []), ← w.leads_to, changes_one S _ r) refl
+written_push {S} {σ} {rs = rs} w r = rw (changes_both S σ rs (r ∷ []), ← (worked_in_turn w).leads_to, changes_one S _ r) refl
 
 pub written_more : {S : Setup} {σ τ : State} (rs : List Request) (bs : List Answer) (k : ℕ) (d : Request)
     → Worked S σ (take k rs) (take k bs) τ → k < length rs

@@ -22,7 +22,7 @@ pub answers_aborted : (S : Setup) (σ : State) (t : ℕ) → AnswersAborted S σ
 unfolding AnswersAborted perform give_up_in
 answers_aborted S σ t a = let w = a (GiveUp t) refl in grind arith
 
-open_not_aborted : (S : Setup) (σ : State) (t : ℕ) (x : Transaction) → find t σ.slots ≡ open_slot x → AnswersAborted S σ t → ⊥
+pub open_not_aborted : (S : Setup) (σ : State) (t : ℕ) (x : Transaction) → find t σ.slots ≡ open_slot x → AnswersAborted S σ t → ⊥
 open_not_aborted S σ t x e a = let w = answers_aborted S σ t a in cc
 
 -- a struck transaction is struck by the words of the theorem, and the other way round

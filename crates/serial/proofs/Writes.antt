@@ -13,6 +13,7 @@ use Rattle.serial.specs.OneDay.{recorded, history, morning, Worked, DayIsWritten
 use Rattle.serial.proofs.Invariant.{Inv, done_kept, done_same}
 use Rattle.serial.proofs.Steps.{open_outcome, call_outcome, count}
 use Rattle.serial.proofs.Kept.{run_holds}
+use Rattle.serial.proofs.OneDay.{worked_in_turn}
 
 -- the changes depend only on the transcripts of the list
 changes_same : (transcripts transcripts' : ℕ → Transcript) (ts : List ℕ)
@@ -80,7 +81,7 @@ pub day_written : {S : Setup} → Laws S → {before : Store} {rs : List Request
     → changes_from S (morning before) rs ≡ day_changes (history rs bs)
 unfolding changes_of_all committed
 day_written {S} laws {before} {rs} w adm =
-    rw w.answered_in_turn (sym (requests_add S laws (morning before) adm rs start))
+    rw (worked_in_turn w).answered_in_turn (sym (requests_add S laws (morning before) adm rs start))
 
 pub day_is_written : DayIsWritten
 day_is_written S laws before adm requests answers evening w = day_written laws w adm

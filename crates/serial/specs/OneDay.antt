@@ -82,9 +82,13 @@ pub record DayDone (S : Setup) (before after : Store) (requests : List Request) 
 -- to the other.
 pub record Worked (S : Setup) (σ : State) (requests : List Request) (answers : List Answer) (σ' : State) : Type 0 where
   pub all_answered : length answers ≡ length requests
+  pub goes_on : {σ₀ : State} {h : History} → Run S σ₀ h σ → Run S σ₀ (recorded requests answers h) σ'
+
+-- The same request by request: these are their answers in turn, and the state that they lead to.
+pub record WorkedInTurn (S : Setup) (σ : State) (requests : List Request) (answers : List Answer)
+    (σ' : State) : Type 0 where
   pub answered_in_turn : answers ≡ answers_from S σ requests
   pub leads_to : σ' ≡ state_after S σ requests
-  pub goes_on : {σ₀ : State} {h : History} → Run S σ₀ h σ → Run S σ₀ (recorded requests answers h) σ'
 
 -- Whatever the order of rights, the policies and the lists in the morning, if set-up admits them, and whatever is asked
 abbrev pub EveryDayIsDone : Type 0
