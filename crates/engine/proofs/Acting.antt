@@ -14,6 +14,7 @@ use Rattle.engine.specs.declared.action.Action.TheVariants.{Calls, Commits, Give
 use Rattle.engine.specs.declared.engine.Engine.{Engine}
 use Rattle.engine.specs.Actions.{asks}
 use Rattle.engine.specs.Engines.{Goes, state_of}
+use Rattle.engine.proofs.Working.{keeps_none}
 use Rattle.engine.proofs.Writing.{wrote_none}
 
 module _ {C R O : Type 0} {c : store.Ghosts C} {r : store.Ghosts R} {o : order.Ghosts O} where
@@ -26,7 +27,7 @@ module _ {C R O : Type 0} {c : store.Ghosts C} {r : store.Ghosts R} {o : order.G
   goes_nowhere e same none = rw (← none) (record {
     answered = same;
     same_setup = refl;
-    keeps_stores = record { same_cells = refl; same_rights = refl; lent = record { by_cells = refl; by_rights = refl }; as_many_cells = refl; as_many_rights = refl; same_size = refl };
+    keeps_stores = keeps_none e;
     writes = wrote_none c r _ _;
   })
 

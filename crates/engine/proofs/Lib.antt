@@ -3,6 +3,7 @@ pub mod Counts
 pub mod Strikes
 pub mod Views
 pub mod Applying
+pub mod Owning
 pub mod Writing
 pub mod Working
 pub mod Slices

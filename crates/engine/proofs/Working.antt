@@ -15,7 +15,15 @@ use Rattle.engine.proofs.Writing.{wrote_none, wrote_both}
 
 module _ {C R O : Type 0} {c : store.Ghosts C} {r : store.Ghosts R} where
   pub keeps_none : (e : Engine C R O) → Keeps c r e e
-  keeps_none e = record { same_cells = refl; same_rights = refl; lent = record { by_cells = refl; by_rights = refl }; as_many_cells = refl; as_many_rights = refl; same_size = refl }
+  keeps_none e = record {
+    same_cells = refl;
+    same_rights = refl;
+    lent = record { by_cells = refl; by_rights = refl };
+    as_many_cells = refl;
+    as_many_rights = refl;
+    same_size = refl;
+    other_cells_stay = refl;
+  }
 
   keeps_both : {e m f : Engine C R O} → Keeps c r e m → Keeps c r m f → Keeps c r e f
   keeps_both k l = record {
@@ -25,6 +33,7 @@ module _ {C R O : Type 0} {c : store.Ghosts C} {r : store.Ghosts R} where
     as_many_cells = l.as_many_cells ∙ k.as_many_cells;
     as_many_rights = l.as_many_rights ∙ k.as_many_rights;
     same_size = l.same_size ∙ k.same_size;
+    other_cells_stay = (rw k.same_size at l.other_cells_stay) ∙ k.other_cells_stay;
   }
 
 module _ {C R O : Type 0} {c : store.Ghosts C} {r : store.Ghosts R} {o : order.Ghosts O} where

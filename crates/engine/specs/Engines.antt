@@ -1,5 +1,5 @@
 -- What an engine means in the words of the machine, and what each of its calls promises.
-use Rattle.std.specs.Prelude.{◌≡◌, Bool, List, length, nat_lt}
+use Rattle.std.specs.Prelude.{◌≡◌, Bool, List, length, drop, nat_lt}
 use Rattle.protocol.specs.declared.answer.Answer.{Answer}
 use Rattle.protocol.specs.declared.policy.Object.{Object}
 use Rattle.protocol.specs.declared.policy.Object.TheVariants.{OfCell, OfPolicy}
@@ -30,7 +30,8 @@ module _ {C R O : Type 0} where
   abbrev pub setup_of : order.Ghosts O → Engine C R O → Setup
   setup_of o e = words.setup_of (o.right e.order.now) (o.joined e.order.now) (o.allows e.order.now) e.policies.now
 
-  -- The engine still has the two stores that it was lent, and they the memory that they were lent; there are as many numbers in them.
+  -- The engine still has the two stores that it was lent, and they the memory that they were lent; there are as many
+  -- numbers in them, and cells that are not the engine's stay as they were.
   pub record Keeps (c : store.Ghosts C) (r : store.Ghosts R) (before after : Engine C R O) : Type 0 where
     pub same_cells : after.cells.ghost_name ≡ before.cells.ghost_name
     pub same_rights : after.rights.ghost_name ≡ before.rights.ghost_name
@@ -38,6 +39,7 @@ module _ {C R O : Type 0} where
     pub as_many_cells : length (c.list after.cells.now) ≡ length (c.list before.cells.now)
     pub as_many_rights : length (r.list after.rights.now) ≡ length (r.list before.rights.now)
     pub same_size : after.size ≡ before.size
+    pub other_cells_stay : drop before.size (c.list after.cells.now) ≡ drop before.size (c.list before.cells.now)
 
   -- These changes went into the engine's stores.
   abbrev pub Writes : store.Ghosts C → store.Ghosts R → Engine C R O → Engine C R O → List Change → Type 0

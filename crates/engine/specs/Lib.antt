@@ -1,4 +1,5 @@
 pub mod Asking
+pub mod Owning
 pub mod Tables
 pub mod Stores
 pub mod Actions

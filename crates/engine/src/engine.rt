@@ -1,5 +1,7 @@
 // The engine holds the two stores that it was lent, an order of rights, the policies and its tables.
 ghost use Rattle.std.specs.Prelude.{◌≤◌, length};
+ghost use Rattle.engine.specs.Owning.{OwnCells};
+ghost use Rattle.engine.specs.Tables.{slots_in};
 
 use crate::tables::Tables;
 use protocol::Policy;
@@ -22,4 +24,6 @@ pub struct Engine<'a, 'o, 'p, C, R, O> {
     tables: Tables,
     ghost few_cells: { size ≤ 256 },
     ghost few_policies: { length policies.now ≤ 64 },
+    // No open transaction has a change to a cell that is not the engine's.
+    ghost own_cells: { OwnCells size (slots_in tables) },
 }

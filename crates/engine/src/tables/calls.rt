@@ -1,5 +1,5 @@
 // The calls of the tables, promised in the words of the machine. They check nothing that the engine has checked.
-ghost use Rattle.std.specs.Prelude.{◌≡◌, ℕ, suc, true, nat_lt, IfSome};
+ghost use Rattle.std.specs.Prelude.{◌≡◌, ℕ, suc, true, nat_lt, slice_set, IfSome};
 ghost use Rattle.locking.specs.declared.mode.PolicyMode.TheVariants.{Deploy};
 ghost use Rattle.workspace.specs.Workspaces.{changes_of};
 ghost use Rattle.serial.specs.Words.{Store};
@@ -9,6 +9,7 @@ ghost use Rattle.serial.specs.Model.{open_in, any_free, end};
 ghost use Rattle.serial.specs.OneDay.{morning};
 ghost use Rattle.lock_table.specs.Held.{held};
 ghost use Rattle.lock_table.specs.Lists.{Covers};
+ghost use Rattle.slot_table.specs.declared.slot.Slot.TheVariants.{Free};
 ghost use Rattle.slot_table.specs.Tables.{used, changes_at};
 ghost use Rattle.slot_table.specs.Finds.{Finds};
 ghost use Rattle.engine.specs.Tables.{closed_state, slots_in, table_state, Commits, OpenIn, NamedAt, asker_in, Acquires, Noted, NotedCall};
@@ -58,6 +59,7 @@ impl Tables {
     // The slot is free, and its locks are gone.
     pub(crate) fn end(&mut self, slot: SlotIndex)
         ensures ends { (t : ℕ) → NamedAt self.old slot.at t → slots_in self.new ≡ end t (slots_in self.old) }
+        ensures slots { used self.new.slots ≡ slice_set (used self.old.slots) slot.at Free }
         ensures counts { self.new.slots.counts ≡ self.old.slots.counts }
     {
         self.locks.release(SlotSet::only(slot));

@@ -4,9 +4,26 @@ use Rattle.std.proofs.lemmas.Result.{err_from_is_err_and}
 use Rattle.engine.specs.Tables.{asker_in}
 use Rattle.engine.specs.Engines.{store_of, state_of, setup_of}
 use Rattle.engine.proofs.Calls.{refused, granted, answer_same}
+use Rattle.engine.proofs.Owning.{own_acquired, own_noted}
 use Rattle.engine.proofs.Stepping.{denied, state_granted}
 use Rattle.engine.proofs.Writing.{wrote_none}
 use Rattle.engine.proofs.engine.Engine.call_in.Goals as goal
+
+pub invariant_of-self-clause-own_cells : goal.invariant_of-self-clause-own_cells
+invariant_of-self-clause-own_cells g c =
+    let e = c.args.self.now in
+    let s = store_of g.C.Store g.R.Store e in
+    let own : length s.cells ≤ e.size = omega (arith, length-take e.size (g.C.Store.list e.cells.now)) in
+    own_acquired e.size (setup_of g.O.RightsOrder e) s own e.tables c.acquire.new.self c.args.asker c.args.call c.in_ok-judge.ensures c.lock_for-lock.result e.own_cells
+    c.acquire.result c.lock_for-lock.ensures (omega (arith, own, e.few_cells)) e.few_policies c.acquire.ensures
+
+pub invariant_of-self-2-clause-own_cells : goal.invariant_of-self-2-clause-own_cells
+invariant_of-self-2-clause-own_cells g c =
+    let e = c.args.self.now in
+    let s = store_of g.C.Store g.R.Store e in
+    let got = c.in_ok-struck.ensures in
+    own_noted e.size (setup_of g.O.RightsOrder e) s (omega (arith, length-take e.size (g.C.Store.list e.cells.now))) e.tables c.acquire.new.self c.args.asker c.args.call
+    c.in_ok-judge.ensures c.lock_for-lock.result e.own_cells c.note.new.self c.in_ok-struck.struck got (c.note.ensures got.still_open)
 
 pub returns-in_err-judge : goal.returns-in_err-judge
 returns-in_err-judge g c =
