@@ -4,3 +4,4 @@ pub mod Says
 pub mod Asking
 pub mod OnRow
 pub mod Listing
+pub mod Popping

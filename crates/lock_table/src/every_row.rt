@@ -52,7 +52,7 @@ fn release_listed(cells: &mut [CellRow], policies: &mut [PolicyRow], locks: &[Lo
 }
 
 // The slots of the set lose all their locks.
-fn release_all(cells: &mut [CellRow], policies: &mut [PolicyRow], gone: SlotSet)
+pub fn release_all(cells: &mut [CellRow], policies: &mut [PolicyRow], gone: SlotSet)
     ensures { LetGo (λ k l. has gone.mask k) cells.old policies.old cells.new policies.new }
 {
     release_rows(cells, gone);

@@ -1,10 +1,11 @@
 // The locks that a slot was granted since its last release, so that the next has to look at their rows alone.
-ghost use Rattle.std.specs.Prelude.{◌≡◌, ◌<◌, true, false, ◌||◌, [], Some, None, MatchOption};
+ghost use Rattle.std.specs.Prelude.{◌≡◌, ℕ, ◌<◌, true, false, cond, ◌||◌, [], Some, None, MatchOption, length, slice_index_or};
 ghost use Rattle.std.specs.List.{list_any};
 ghost use Rattle.serial.specs.Locks.{Lock};
-ghost use Rattle.lock_table.specs.Lists.{on_one_row, may_hold, locks_in, one_more};
+ghost use Rattle.locking.specs.Slots.{has};
+ghost use Rattle.lock_table.specs.Lists.{no_list, on_one_row, may_hold, locks_in, listed_of, one_more};
 
-use locking::{CellMode, Lock};
+use locking::{CellMode, Lock, SlotSet};
 
 // A transaction mostly holds few locks. Past 32 they are only counted, and the slot's release looks at every row.
 #[derive(Clone, Copy)]
@@ -47,5 +48,17 @@ impl LockList {
         ensures locks { locks_in self.new ≡ Some [] }
     {
         self.count = 0;
+    }
+}
+
+// The lists of the slots of the set have no locks; the others stand.
+pub(crate) fn clear_lists(lists: &mut [LockList], slots: SlotSet)
+    requires { length lists.old ≡ 16 }
+    ensures cleared { (k : ℕ) → listed_of lists.new k ≡ cond (has slots.mask k) (Some []) (listed_of lists.old k) }
+    ensures others { (k : ℕ) → has slots.mask k ≡ false → slice_index_or lists.new k no_list ≡ slice_index_or lists.old k no_list }
+{
+    let mut rest = slots;
+    while let Some(slot) = rest.pop_lowest() {
+        lists[slot.get()].clear();
     }
 }

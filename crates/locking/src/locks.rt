@@ -1,6 +1,6 @@
 // Who holds which lock on one cell or policy, where the locks are compatible, and what asking for one more comes to.
-ghost use Rattle.std.specs.Prelude.{◌≡◌, ℕ, ⊤, false, MatchOption, MatchResult};
-ghost use Rattle.locking.specs.Slots.{has};
+ghost use Rattle.std.specs.Prelude.{◌≡◌, ℕ, ⊤, false, not, ◌&&◌, MatchOption, MatchResult};
+ghost use Rattle.locking.specs.Slots.{has, without_bit};
 ghost use Rattle.locking.specs.Locks.{hears, Waits, LockGranted};
 ghost use Rattle.locking.specs.declared.mode.LockAnswer.TheVariants.{Conflict, Signal};
 
@@ -73,10 +73,27 @@ impl<R: LockRow> Locks<R> {
         row
     }
 
-    fn holds(self, mode: R::Mode, slot: SlotIndex) -> bool
+    /// Whether the slot holds the lock of that mode.
+    pub fn holds(self, mode: R::Mode, slot: SlotIndex) -> bool
         ensures { result ≡ R.holds self.row mode slot.at }
     {
         self.row.holders(mode).contains(slot)
+    }
+
+    /// The slot loses its locks.
+    pub fn release(self, slot: SlotIndex) -> Locks<R>
+        ensures { (m : R.Mode) (k : ℕ) → R.holds result.row m k ≡ without_bit (R.holds self.row m) slot.at k }
+    {
+        self.release_all(SlotSet::only(slot))
+    }
+
+    /// The slots of the set lose their locks.
+    pub fn release_all(self, gone: SlotSet) -> Locks<R>
+        ensures { (m : R.Mode) (k : ℕ) → R.holds result.row m k ≡ (R.holds self.row m k && not (has gone.mask k)) }
+    {
+        Locks {
+            row: self.row.without(gone),
+        }
     }
 
     // What the locks of the others say to a lock that the slot does not hold yet.

@@ -1,13 +1,13 @@
 // The calls of the table, promised by who holds which lock.
-ghost use Rattle.std.specs.Prelude.{◌≡◌, ℕ, ◌<◌, false, cond, not, ◌&&◌, ◌==◌, [], Some, None, OnOk, OnErr, MatchOption, slice_index_or};
+ghost use Rattle.std.specs.Prelude.{◌≡◌, ℕ, ◌<◌, true, false, cond, not, ◌&&◌, ◌==◌, [], Some, None, OnOk, OnErr, MatchOption, Decides, slice_index_or};
 ghost use Rattle.locking.specs.Slots.{has};
 ghost use Rattle.serial.specs.Locks.{Lock};
 ghost use Rattle.lock_table.specs.Held.{held, Asked, AskedOnRow};
 ghost use Rattle.lock_table.specs.Lists.{no_list, Covers, listed_of, one_more};
 
 use super::LockTable;
-use crate::every_row::{ask_on_row, release_by};
-use crate::lock_list::LockList;
+use crate::every_row::{ask_on_row, release_all, release_by};
+use crate::lock_list::{LockList, clear_lists};
 use crate::not_granted::NotGranted;
 use crate::rows::holds_at;
 use locking::{CellLocks, Lock, PolicyLocks, SlotIndex, SlotSet};
@@ -61,15 +61,56 @@ impl LockTable {
         self.lists[slot.get()].clear();
     }
 
+    // Whether some slot of the set was granted more locks than its list keeps.
+    fn exceeds_list(&self, slots: SlotSet) -> bool
+        ensures { Decides result ((k : ℕ) × (has slots.mask k ≡ true) × (listed_of self.now.lists k ≡ None)) }
+    {
+        let mut rest = slots;
+        while let Some(slot) = rest.pop_lowest() {
+            if self.listed(slot).is_none() {
+                return true;
+            }
+        }
+        false
+    }
+
+    // The whole set by one pass over every row.
+    fn release_at_once(&mut self, gone: SlotSet)
+        ensures locks { (k : ℕ) (l : Lock) → held self.new k l ≡ (held self.old k l && not (has gone.mask k)) }
+        ensures lists { (k : ℕ) →
+            listed_of self.new.lists k ≡ cond (has gone.mask k) (Some []) (listed_of self.old.lists k) }
+    {
+        release_all(&mut self.cells, &mut self.policies, gone);
+        clear_lists(&mut self.lists, gone);
+    }
+
+    // A slot whose list is too short for its locks costs a pass over every row. So where several slots go, and one of them is such a
+    // slot, a single pass lets them all go; else each goes by its own list.
+    fn release_slots(&mut self, gone: SlotSet)
+        ensures locks { (k : ℕ) (l : Lock) → held self.new k l ≡ (held self.old k l && not (has gone.mask k)) }
+        ensures lists { (k : ℕ) →
+            listed_of self.new.lists k ≡ cond (has gone.mask k) (Some []) (listed_of self.old.lists k) }
+    {
+        if gone.count() > 1 && self.exceeds_list(gone) {
+            self.release_at_once(gone);
+            return;
+        }
+        let mut rest = gone;
+        while let Some(slot) = rest.pop_lowest() {
+            self.release_slot(slot);
+        }
+    }
+
+    // Inlined for its test, since a lock is mostly granted with nobody struck.
     // The slots of the set lose all their locks, and their lists have none.
+    #[inline(always)]
     pub fn release(&mut self, gone: SlotSet)
         ensures locks { (k : ℕ) (l : Lock) → held self.new k l ≡ (held self.old k l && not (has gone.mask k)) }
         ensures lists { (k : ℕ) →
             listed_of self.new.lists k ≡ cond (has gone.mask k) (Some []) (listed_of self.old.lists k) }
     {
-        let mut rest = gone;
-        while let Some(slot) = rest.pop_lowest() {
-            self.release_slot(slot);
+        if !gone.is_empty() {
+            self.release_slots(gone);
         }
     }
 

@@ -3,7 +3,7 @@ use Rattle.locking.specs.Slots.{has, count_below}
 use Rattle.serial.specs.Locks.{Lock}
 use Rattle.lock_table.specs.Held.{held}
 use Rattle.lock_table.specs.Lists.{listed_of}
-use Rattle.lock_table.proofs.lock_table.LockTable.release.Given as goal
+use Rattle.lock_table.proofs.lock_table.LockTable.release_slots.Given as goal
 
 abbrev pub invariant-loop-slot : goal.invariant-loop-slot
 invariant-loop-slot l = record {

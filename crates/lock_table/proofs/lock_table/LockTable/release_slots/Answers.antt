@@ -2,7 +2,8 @@ use Rattle.std.proofs.Common.{◌≡◌, ℕ, Bool, true, cond, not, ◌&&◌, e
 use Rattle.std.proofs.lemmas.Bool.{cases_eq}
 use Rattle.std.proofs.lemmas.Bool.Decides.{nat_tests}
 use Rattle.locking.specs.Slots.{has, without_bit}
-use Rattle.lock_table.proofs.lock_table.LockTable.release.Goals as goal
+use Rattle.lock_table.proofs.Popping.{fewer_below}
+use Rattle.lock_table.proofs.lock_table.LockTable.release_slots.Goals as goal
 
 -- one slot more has left the set, and lost its locks
 one_more : (gone rest rest' : ℕ → Bool) (held now after : Bool) (i k : ℕ) → gone i ≡ true → ((j : ℕ) → rest' j ≡ without_bit rest i j) → now ≡ (held && not (gone k && not (rest k))) → after ≡ (now && not (eqb k i)) → after ≡ (held && not (gone k && not (rest' k)))
@@ -28,3 +29,8 @@ loop-slot-preserved c =
       lists = λ k. one_cleared (has c.args.gone.mask) (has c.loop-slot.rest.mask) (has c.pop_lowest.new.self.mask) _ _ _ _ c.in-Some.slot.at k (inv.within c.in-Some.slot.at popped.0.0) popped.1 (inv.lists k) (c.release_slot.ensures.lists k);
       within = λ k h. inv.within k (fewer (has c.loop-slot.rest.mask) (has c.pop_lowest.new.self.mask) c.in-Some.slot.at k popped.1 h);
     }
+
+pub loop-slot-smaller : goal.loop-slot-smaller
+loop-slot-smaller c =
+    let popped = c.in-Some.ensures in
+    fewer_below (has c.loop-slot.rest.mask) (has c.pop_lowest.new.self.mask) c.in-Some.slot.at popped.1 16 popped.0.0 c.in-Some.slot.below
