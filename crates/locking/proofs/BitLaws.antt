@@ -1,10 +1,10 @@
 -- The slots that a mask has, after what `|`, `&`, `!` and `1 << i` do to it.
-use Rattle.std.proofs.Common.{◌≡◌, ℕ, zero, suc, ◌+◌, ◌-◌, ◌*◌, ◌/◌, ◌%◌, ◌^◌, ◌<◌, ◌≤◌, Bool, false, cond, not, ◌&&◌, ◌||◌, eqb, Decides, ◌⊎◌, inl, inr, sym, refl, ap, ◌∙◌, ap₂, ⊎_elim, mul_assoc, pow-suc, one-add, arith, w16}
-use lib.Bits.{bit_and, bit_or}
+use Rattle.std.proofs.Common.{◌≡◌, ℕ, zero, suc, ◌+◌, ◌-◌, ◌*◌, ◌/◌, ◌%◌, ◌^◌, ◌<◌, ◌≤◌, Bool, true, false, cond, not, ◌&&◌, ◌||◌, eqb, Decides, ◌⊎◌, inl, inr, sym, refl, ap, ◌∙◌, ap₂, ⊎_elim, mod-eq_of_lt, mul_assoc, pow-suc, one-add, arith, w16}
+use lib.Bits.{bit_and, bit_or, bit_xor, xor_add_and, and_mask}
 use lib.Count.{ones, ones_step, ones_cat, ones-ones}
 use Rattle.std.proofs.lemmas.Nat.{pow_pos, one_shl, shr_split, shr_below, field_of, mod_below}
-use Rattle.std.proofs.lemmas.Nat.Bits.{bit_at-lt, bit_at_or, bit_at_and, bit_at_not, bit_at-pow_same, bit_at-pow_other, bit_at_above, bit_at-zero, bit_at-trailing_zeros, same_from_bits_below}
-use Rattle.std.proofs.lemmas.Bool.{cases_lt, cases_eq, eqb-true, eq-eqb, ne_eqb}
+use Rattle.std.proofs.lemmas.Nat.Bits.{bit_at-lt, bit_at_or, bit_at_and, bit_at_xor, bit_at_ones, bit_at-pow_same, bit_at-pow_other, bit_at_above, bit_at-zero, bit_at-trailing_zeros, same_from_bits_below}
+use Rattle.std.proofs.lemmas.Bool.{cases_lt, cases_eq, eqb-true, eq-eqb, ne_eqb, both_ways}
 use Rattle.std.proofs.lemmas.Bool.Decides.{nat_tests}
 use Rattle.std.specs.Int.{bit_at, trailing_zeros}
 use Rattle.std.specs.Int.Count.{trailing_of_zero}
@@ -34,27 +34,38 @@ has_or a b k =
     let q = bit_at-lt b k in
     grind (arith, nat_tests)
 
--- `a & !b`
-pub has_minus : (a b k : ℕ) → a < 2 ^ 16 → b < 2 ^ 16 → has (bit_and a (2 ^ 16 - 1 - b)) k ≡ (has a k && not (has b k))
+-- `!x` at w bits
+pub bit_not : (w x k : ℕ) → x < 2 ^ w → k < w → bit_at (2 ^ w - 1 - x) k ≡ 1 - bit_at x k
+bit_not w x k h lt =
+    let m = 2 ^ w - 1 in
+    let e : bit_and x m ≡ x = and_mask x w ∙ mod-eq_of_lt h in
+    let s = xor_add_and x m in
+    let flip : bit_xor x m ≡ m - x = omega (arith, e, s) in
+    let b : bit_at (m - x) k ≡ (bit_at x k + bit_at m k) % 2 = ap (λ n. bit_at n k) (sym flip) ∙ bit_at_xor x m k in
+    let one = bit_at_ones w k lt in
+    omega (arith, bit_at-lt x k)
+
+-- `a & !b` at w bits
+pub has_minus : (w a b k : ℕ) → a < 2 ^ w → b < 2 ^ w → has (bit_and a (2 ^ w - 1 - b)) k ≡ (has a k && not (has b k))
 unfolding has
-has_minus a b k h l =
-    let both = bit_at_and a (2 ^ 16 - 1 - b) k in
+has_minus w a b k h l =
+    let both = bit_at_and a (2 ^ w - 1 - b) k in
     let p = bit_at-lt a k in
     let q = bit_at-lt b k in
     ⊎_elim
-    (λ (inside : k < 16). let n = bit_at_not w16 b k l inside in grind (arith, nat_tests))
-    (λ (past : 16 ≤ k). let z = bit_at_above a 16 k h past in grind (arith, nat_tests))
-    (cases_lt k 16)
+    (λ (inside : k < w). let n = bit_not w b k l inside in grind (arith, nat_tests))
+    (λ (past : w ≤ k). let z = bit_at_above a w k h past in grind (arith, nat_tests))
+    (cases_lt k w)
 
 -- a number with no bit is 0
-none_set : (w a : ℕ) → a < 2 ^ w → ((k : ℕ) → has a k ≡ false) → a ≡ 0
+pub none_set : (w a : ℕ) → a < 2 ^ w → ((k : ℕ) → k < w → has a k ≡ true → ⊥) → a ≡ 0
 unfolding has
 none_set w a h clear =
-    same_from_bits_below w a 0 h (pow_pos w) (λ k l. let z = bit_at-zero k in let n = clear k in let lt = bit_at-lt a k in grind (arith, nat_tests))
+    same_from_bits_below w a 0 h (pow_pos w) (λ k l. let z = bit_at-zero k in let n = clear k l in let lt = bit_at-lt a k in grind (arith, nat_tests))
 
 -- a set is empty exactly if its mask is 0
 pub decides_zero : (w a : ℕ) → a < 2 ^ w → Decides (eqb a 0) ((k : ℕ) → has a k ≡ false)
-decides_zero w a h = (λ e k. ap (λ n. has n k) (eqb-true a 0 e) ∙ has_zero k, λ clear. eq-eqb a 0 (none_set w a h clear))
+decides_zero w a h = (λ e k. ap (λ n. has n k) (eqb-true a 0 e) ∙ has_zero k, λ clear. eq-eqb a 0 (none_set w a h (λ k l set. both_ways (has a k) (clear k) set)))
 
 -- `trailing_zeros` names the lowest slot of a set, if there is one
 zero_or_lowest : (n : ℕ) → n < 2 ^ 16 → (n ≡ 0) ⊎ ((trailing_zeros w16 n < 16) × IsLowest (has n) (trailing_zeros w16 n))
@@ -90,14 +101,14 @@ ones_small n h =
     grind (arith, nat_tests)
 
 -- the bits below w of a number and of its remainder by 2 ^ w
-bit_mod : (n w k : ℕ) → k < w → bit_at (n % 2 ^ w) k ≡ bit_at n k
+pub bit_mod : (n w k : ℕ) → k < w → bit_at (n % 2 ^ w) k ≡ bit_at n k
 bit_mod n w k h =
     let d = w - suc k in
     let split : w ≡ suc d + k = omega arith in
     let e : n % 2 ^ w / 2 ^ k ≡ n / 2 ^ k % 2 ^ suc d = ap (λ j. n % 2 ^ j / 2 ^ k) split ∙ field_of n (suc d) k in
     ap (λ m. m % 2) e ∙ mod_mod_two (n / 2 ^ k) d
 
-count_same : (p q : ℕ → Bool) (n : ℕ) → ((k : ℕ) → k < n → p k ≡ q k) → count_below p n ≡ count_below q n
+pub count_same : (p q : ℕ → Bool) (n : ℕ) → ((k : ℕ) → k < n → p k ≡ q k) → count_below p n ≡ count_below q n
 count_same p q zero e = refl
 count_same p q (suc n) e = ap₂ (λ b m. cond b 1 0 + m) (e n (omega arith)) (count_same p q n (λ k l. e k (omega arith)))
 

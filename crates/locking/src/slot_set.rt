@@ -67,7 +67,6 @@ impl SlotSet {
     }
 
     // Those of this set that are not in the other.
-    #[tactic(auto, using(crate::proofs::BitLaws::has_minus))]
     pub(crate) fn minus(self, other: SlotSet) -> SlotSet
         ensures { (k : ℕ) → has result.mask k ≡ (has self.mask k && not (has other.mask k)) }
     {
