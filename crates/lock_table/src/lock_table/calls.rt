@@ -101,8 +101,8 @@ impl LockTable {
         }
     }
 
+    /// The slots of the set lose all their locks, and their lists have none.
     // Inlined for its test, since a lock is mostly granted with nobody struck.
-    // The slots of the set lose all their locks, and their lists have none.
     #[inline(always)]
     pub fn release(&mut self, gone: SlotSet)
         ensures locks { (k : ℕ) (l : Lock) → held self.new k l ≡ (held self.old k l && not (has gone.mask k)) }
