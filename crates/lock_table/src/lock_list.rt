@@ -55,7 +55,8 @@ impl LockList {
 pub(crate) fn clear_lists(lists: &mut [LockList], slots: SlotSet)
     requires { length lists.old ≡ 16 }
     ensures cleared { (k : ℕ) → listed_of lists.new k ≡ cond (has slots.mask k) (Some []) (listed_of lists.old k) }
-    ensures others { (k : ℕ) → has slots.mask k ≡ false → slice_index_or lists.new k no_list ≡ slice_index_or lists.old k no_list }
+    ensures others { (k : ℕ) →
+        has slots.mask k ≡ false → slice_index_or lists.new k no_list ≡ slice_index_or lists.old k no_list }
 {
     let mut rest = slots;
     while let Some(slot) = rest.pop_lowest() {

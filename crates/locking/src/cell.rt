@@ -13,7 +13,7 @@ use crate::slot::SlotIndex;
 use crate::slot_set::SlotSet;
 use LockAnswer::{Compatible, Conflict};
 
-// A row of the table of locks: plain numbers, as the project demands, in which 16 for the writer is nobody.
+// A row of the table of locks, of which there are 256, so it is plain numbers and takes four bytes. 16 for the writer is nobody.
 #[derive(Clone, Copy, PartialEq, Eq, Debug)]
 pub struct CellRow {
     pub readers: u16,
@@ -24,7 +24,7 @@ pub type CellLocks = Locks<CellRow>;
 
 const MODES: [CellMode; 2] = [CellMode::ReadCell, CellMode::WriteCell];
 
-// By the held mode, then the asked one. Either kind of row has a constant table of its own, by a rule of the project.
+// By the held mode, then the asked one. Each kind of row has a table of its own, since it has modes of its own.
 const ANSWERS: [[LockAnswer; 2]; 2] = [[Compatible, Conflict], [Conflict, Conflict]];
 
 impl LockRow for CellRow {

@@ -6,7 +6,7 @@ ghost use Rattle.locking.specs.Locks.{Beside};
 use crate::slot::SlotIndex;
 use crate::slot_set::SlotSet;
 
-// A number, as the rows of the table are plain numbers by a rule of the project.
+// A number beside the slots' own, so that a holder takes one byte of a row.
 pub(crate) const NOBODY: u8 = 16;
 
 pub(crate) fn holder_set(holder: u8) -> SlotSet

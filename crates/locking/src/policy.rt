@@ -13,7 +13,7 @@ use crate::slot::SlotIndex;
 use crate::slot_set::SlotSet;
 use LockAnswer::{Compatible, Conflict, Signal};
 
-// A row of the table of locks: plain numbers, as the project demands, in which 16 for the relaxer or the restricter is nobody.
+// A row of the table of locks: plain numbers, in six bytes. 16 for the relaxer or the restricter is nobody.
 #[derive(Clone, Copy, PartialEq, Eq, Debug)]
 pub struct PolicyRow {
     pub readers: u16,

@@ -103,7 +103,8 @@ impl<'a> Log<'a> {
         4 * self.count + 9 * self.used()
     }
 
-    // The number at a position after the first `fields` places: the value of the last field of the position, else its base number.
+    // The number at a position after the first `fields` places: the value of the last field of the position, else its
+    // base number.
     pub(crate) fn number_after(&self, fields: usize, position: usize) -> u32
         requires counted { position < self.now.count }
         requires within { fields ≤ places self.now.count self.now.bytes.now }

@@ -126,18 +126,7 @@ recorded_both (r ∷ rs) [] rs' bs' h e = cc
 recorded_both (r ∷ rs) (b ∷ bs) rs' bs' h e =
     recorded_both rs bs rs' bs' (record { request = r; answer = b } ∷ h) (omega arith)
 
--- the state, the answers and the changes over some requests and then some more
-pub state_both : (S : Setup) (σ : State) (rs rs' : List Request) → state_after S σ (rs ++ rs') ≡ state_after S (state_after S σ rs) rs'
-unfolding state_after
-state_both S σ [] rs' = refl
-state_both S σ (r ∷ rs) rs' = state_both S (after S σ r) rs rs'
-
-pub answers_both : (S : Setup) (σ : State) (rs rs' : List Request)
-    → answers_from S σ (rs ++ rs') ≡ answers_from S σ rs ++ answers_from S (state_after S σ rs) rs'
-unfolding answers_from state_after
-answers_both S σ [] rs' = refl
-answers_both S σ (r ∷ rs) rs' = ap (λ bs. answer S σ r ∷ bs) (answers_both S (after S σ r) rs rs')
-
+-- the changes over some requests and then some more
 changes_both : (S : Setup) (σ : State) (rs rs' : List Request)
     → changes_from S σ (rs ++ rs') ≡ changes_from S σ rs ++ changes_from S (state_after S σ rs) rs'
 unfolding changes_from state_after

@@ -84,8 +84,8 @@ impl LockTable {
         clear_lists(&mut self.lists, gone);
     }
 
-    // A slot whose list is too short for its locks costs a pass over every row. So where several slots go, and one of them is such a
-    // slot, a single pass lets them all go; else each goes by its own list.
+    // A slot whose list is too short for its locks costs a pass over every row. So where several slots go, and one of
+    // them is such a slot, a single pass lets them all go; else each goes by its own list.
     fn release_slots(&mut self, gone: SlotSet)
         ensures locks { (k : ℕ) (l : Lock) → held self.new k l ≡ (held self.old k l && not (has gone.mask k)) }
         ensures lists { (k : ℕ) →
